@@ -1,0 +1,212 @@
+-- Reading an RDEF chunk: document 01, "Walk order", to the letter. The numbers are those of its table of refusals.
+use mathlib.Core.Bool.{Bool, true, false, _&&_, _||_, not}
+use mathlib.Core.List.{List, [], _∷_}
+use Prim.Native.Nat.{ℕ, zero, suc, _+_, _/_, _%_}
+use lib.Dec.{eqb, leb}
+use lib.ListN.{length}
+use Rattle.words.specs.Words.{wordAt, lowAt, highAt}
+use Rattle.words.specs.Parts.{inside}
+use Rattle.text.specs.declared.Found.{Found}
+use Rattle.text.specs.declared.Found.the-variants.{At, Bad}
+use Rattle.text.specs.Strings.{cstringAt}
+use Rattle.reflection.specs.declared.Text.{Text}
+use Rattle.reflection.specs.Outcome.{Outcome, ok, refused}
+use Rattle.reflection.specs.Reflection.{TypeNumbers, TypeDesc, typeDesc, Members, noMember, member, Rd11, noRd11, rd11, ResourceBinding, CBufferVariable, CBufferDef, ResourceDef, isSm5, isWide}
+use Rattle.reading.specs.Step.{Room, Step, _>>=_, return, refuse, check, textOr, takeBinding, takeBuffer, takeVariable, takeType}
+
+-- Strides in bytes. Major 5 has longer variables and type descriptors; a binding of 40 bytes has space and id.
+abbrev pub bindingStride : Bool → ℕ
+bindingStride false = 32
+bindingStride true = 40
+
+abbrev pub variableStride : Bool → ℕ
+variableStride false = 24
+variableStride true = 40
+
+abbrev pub typeStride : Bool → ℕ
+typeStride false = 16
+typeStride true = 36
+
+-- A word that only the longer record has; 0 in the other.
+unfoldable pub wordIf : Bool → List ℕ → ℕ → ℕ
+wordIf false s at = 0
+wordIf true s at = wordAt s at
+
+-- n records from `at` on, one stride after the other. A count of 0 leaves the offset unread.
+unfoldable pub readMany : {A : Type 0} → (ℕ → Step A) → ℕ → ℕ → ℕ → Step (List A)
+readMany read stride zero at = return []
+readMany read stride (suc n) at = do
+  x ← read at
+  xs ← readMany read stride n (at + stride)
+  return (x ∷ xs)
+
+-- Whether a descriptor is on the path that led here.
+unfoldable pub onPath : ℕ → List ℕ → Bool
+onPath at [] = false
+onPath at (x ∷ xs) = eqb at x || onPath at xs
+
+-- n members: each a record of 12 bytes, its name, then its type, which `readType` reads.
+unfoldable pub readMembers : (ℕ → Step (TypeDesc Text)) → List ℕ → ℕ → ℕ → Step (Members Text)
+readMembers readType s zero at = return noMember
+readMembers readType s (suc n) at = do
+  _ ← check (inside (length s) at 12) 7
+  name ← textOr 11 (cstringAt s (wordAt s at))
+  type ← readType (wordAt s (at + 4))
+  others ← readMembers readType s n (at + 12)
+  return (member name (wordAt s (at + 8)) type others)
+
+-- A string whose offset 0 means empty, at place 0.
+unfoldable pub cstringOrEmpty : List ℕ → ℕ → Found
+cstringOrEmpty s zero = At 0 0
+cstringOrEmpty s (suc offset) = cstringAt s (suc offset)
+
+-- A type's name: major 5 only.
+unfoldable pub typeNameAt : List ℕ → Bool → ℕ → Found
+typeNameAt s false at = At 0 0
+typeNameAt s true at = cstringOrEmpty s (wordAt s (at + 32))
+
+-- What a type descriptor's own words say.
+unfoldable pub numbersFrom : List ℕ → Bool → ℕ → TypeNumbers
+numbersFrom s sm5 at = record {
+  class = lowAt s at;
+  var-type = highAt s at;
+  rows = lowAt s (at + 4);
+  columns = highAt s (at + 4);
+  elements = lowAt s (at + 8);
+  extra0 = wordIf sm5 s (at + 16);
+  extra1 = wordIf sm5 s (at + 20);
+  extra2 = wordIf sm5 s (at + 24);
+  extra3 = wordIf sm5 s (at + 28);
+}
+
+-- The root of a type stands at depth 0 and the deepest node at 64: 65 levels.
+abbrev pub typeLevels : ℕ
+typeLevels = 65
+
+-- The type at an offset, with so many levels left below the descriptors on `path`: depth, path, room, range, members, name.
+unfoldable pub readType : List ℕ → Bool → ℕ → List ℕ → ℕ → Step (TypeDesc Text)
+readType s sm5 zero path at = refuse 13
+readType s sm5 (suc levels) path at = do
+  _ ← check (not (onPath at path)) 14
+  _ ← takeType
+  _ ← check (inside (length s) at (typeStride sm5)) 7
+  members ← readMembers (λ below. readType s sm5 levels (at ∷ path) below) s (highAt s (at + 8)) (wordAt s (at + 12))
+  name ← textOr 11 (typeNameAt s sm5 at)
+  return (typeDesc (numbersFrom s sm5 at) name members)
+
+-- A default: offset 0 means empty, at place 0; any other, and it plus the variable's size, must not pass the chunk's end.
+unfoldable pub defaultAt : List ℕ → ℕ → ℕ → Found
+defaultAt s zero size = At 0 0
+defaultAt s (suc offset) size = elim (inside (length s) (suc offset) size) [ true ↦ At (suc offset) size | false ↦ Bad ]
+
+-- What a variable's record says, with what its offsets lead to.
+unfoldable pub variableFrom : List ℕ → Bool → ℕ → Text → Text → TypeDesc Text → CBufferVariable Text Text
+variableFrom s sm5 at name default type = record {
+  name = name;
+  offset = wordAt s (at + 4);
+  size = wordAt s (at + 8);
+  flags = wordAt s (at + 12);
+  default-value = default;
+  texture-start = wordIf sm5 s (at + 24);
+  texture-size = wordIf sm5 s (at + 28);
+  sampler-start = wordIf sm5 s (at + 32);
+  sampler-size = wordIf sm5 s (at + 36);
+  var-type = type;
+}
+
+-- A variable: room, record, default, name, type.
+unfoldable pub readVariable : List ℕ → Bool → ℕ → Step (CBufferVariable Text Text)
+readVariable s sm5 at = do
+  _ ← takeVariable
+  _ ← check (inside (length s) at (variableStride sm5)) 7
+  default ← textOr 12 (defaultAt s (wordAt s (at + 20)) (wordAt s (at + 8)))
+  name ← textOr 11 (cstringAt s (wordAt s at))
+  type ← readType s sm5 typeLevels [] (wordAt s (at + 16))
+  return (variableFrom s sm5 at name default type)
+
+-- What a buffer's record says.
+unfoldable pub bufferFrom : List ℕ → ℕ → Text → List (CBufferVariable Text Text) → CBufferDef Text Text
+bufferFrom s at name variables = record { name = name; size = wordAt s (at + 12); flags = wordAt s (at + 16); cb-type = wordAt s (at + 20); variables = variables }
+
+-- A buffer of 24 bytes: room, record, its variables, then its name.
+unfoldable pub readBuffer : List ℕ → Bool → ℕ → Step (CBufferDef Text Text)
+readBuffer s sm5 at = do
+  _ ← takeBuffer
+  _ ← check (inside (length s) at 24) 7
+  variables ← readMany (readVariable s sm5) (variableStride sm5) (wordAt s (at + 4)) (wordAt s (at + 8))
+  name ← textOr 11 (cstringAt s (wordAt s at))
+  return (bufferFrom s at name variables)
+
+-- What a binding's record says; only the longer one has space and id.
+unfoldable pub bindingFrom : List ℕ → Bool → ℕ → Text → ResourceBinding Text
+bindingFrom s wide at name = record {
+  name = name;
+  input-type = wordAt s (at + 4);
+  return-type = wordAt s (at + 8);
+  dimension = wordAt s (at + 12);
+  num-samples = wordAt s (at + 16);
+  bind-point = wordAt s (at + 20);
+  bind-count = wordAt s (at + 24);
+  flags = wordAt s (at + 28);
+  space = wordIf wide s (at + 32);
+  id = wordIf wide s (at + 36);
+}
+
+-- A binding: room, record, input type, dimension, flags, name.
+unfoldable pub readBinding : List ℕ → Bool → ℕ → Step (ResourceBinding Text)
+readBinding s wide at = do
+  _ ← takeBinding
+  _ ← check (inside (length s) at (bindingStride wide)) 7
+  _ ← check (leb (wordAt s (at + 4)) 13) 8
+  _ ← check (leb (wordAt s (at + 12)) 11) 9
+  _ ← check (leb (wordAt s (at + 28)) 0x1f) 10
+  name ← textOr 11 (cstringAt s (wordAt s at))
+  return (bindingFrom s wide at name)
+
+-- The major version: bits 8 to 15 of the version word.
+abbrev pub majorOf : ℕ → ℕ
+majorOf version = version / 256 % 256
+
+-- The RD11 words that are allowed: identifier "RD11" or 0x25441313; header 60; buffer stride 24; binding stride 32 or 40; variable stride 40;
+-- type stride 36; member stride 12; the interface slots are free. Either identifier goes with either binding stride.
+unfoldable pub rd11Allowed : List ℕ → Bool
+rd11Allowed s =
+    (eqb (wordAt s 28) 0x31314452 || eqb (wordAt s 28) 0x25441313)
+    && (eqb (wordAt s 32) 60
+    && (eqb (wordAt s 36) 24
+    && ((eqb (wordAt s 40) 32 || eqb (wordAt s 40) 40)
+    && (eqb (wordAt s 44) 40
+    && (eqb (wordAt s 48) 36
+    && eqb (wordAt s 52) 12)))))
+
+unfoldable pub readRd11 : List ℕ → Bool → Step Rd11
+readRd11 s false = return noRd11
+readRd11 s true = do
+  _ ← check (leb 60 (length s)) 5
+  _ ← check (rd11Allowed s) 6
+  return (rd11 (wordAt s 28) (wordAt s 40) (wordAt s 56))
+
+-- What follows the header: the bindings, then the buffers.
+unfoldable pub readTables : List ℕ → Text → Rd11 → Step (ResourceDef Text Text)
+readTables s creator words = do
+  bindings ← readMany (readBinding s (isWide words)) (bindingStride (isWide words)) (wordAt s 8) (wordAt s 12)
+  buffers ← readMany (readBuffer s (isSm5 words)) 24 (wordAt s 0) (wordAt s 4)
+  return (record { target-version = wordAt s 16; compile-flags = wordAt s 20; rd11 = words; creator = creator; bindings = bindings; constant-buffers = buffers })
+
+-- The chunk: its length, the major version, the creator, the RD11 words of major 5, the tables.
+unfoldable pub readChunk : List ℕ → Step (ResourceDef Text Text)
+readChunk s = do
+  _ ← check (leb 28 (length s)) 1
+  _ ← check (leb (length s) 65536) 2
+  _ ← check (eqb (majorOf (wordAt s 16)) 4 || eqb (majorOf (wordAt s 16)) 5) 3
+  creator ← textOr 4 (cstringAt s (wordAt s 24))
+  words ← readRd11 s (eqb (majorOf (wordAt s 16)) 5)
+  readTables s creator words
+
+abbrev pub withoutRoom : {A : Type 0} → Outcome (A × Room) → Outcome A
+withoutRoom (ok p) = ok (p .0)
+withoutRoom (refused e) = refused e
+
+-- What a chunk reads as in a given room.
+unfoldable pub read : Room → List ℕ → Outcome (ResourceDef Text Text)
+read room s = withoutRoom (readChunk s room)

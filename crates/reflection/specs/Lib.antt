@@ -1,0 +1,6 @@
+pub mod Outcome
+pub mod Reflection
+pub mod Texts
+pub mod Nodes
+pub mod Records
+pub mod Tables

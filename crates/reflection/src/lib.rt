@@ -1,0 +1,88 @@
+// A reflection held in lent tables: the structs of the Rust by value, each the record of a table.
+use codes::BindingFlags;
+use codes::VariableFlags;
+
+// Where a name or a default lies: in the chunk (source 0) or in the text of edits (source 1), `length` bytes from `place` on.
+pub struct Text {
+    pub source: u32,
+    pub place: u32,
+    pub length: u32,
+}
+
+// Why an entry refused: the number of document 01's table.
+pub struct Refusal {
+    pub number: u32,
+}
+
+// The RD11 words that are free; all 0 for major 4.
+pub struct Rd11Header {
+    pub identifier: u32,
+    pub resource_binding_stride: u32,
+    pub interface_slot_count: u32,
+}
+
+// A reflection's own numbers, and how many records stand in each table.
+pub struct ResourceDef {
+    pub target_version: u32,
+    pub compile_flags: u32,
+    pub creator: Text,
+    pub rd11: Rd11Header,
+    pub binding_count: u32,
+    pub buffer_count: u32,
+    pub variable_count: u32,
+    pub type_count: u32,
+}
+
+// A resource binding: a record of the bindings' table.
+pub struct ResourceBinding {
+    pub name: Text,
+    pub input_type: u32,
+    pub return_type: u32,
+    pub dimension: u32,
+    pub num_samples: u32,
+    pub bind_point: u32,
+    pub bind_count: u32,
+    pub flags: BindingFlags,
+    pub space: u32,
+    pub id: u32,
+}
+
+// A constant buffer: a record of the buffers' table. Its variables follow those of the buffers before it.
+pub struct CBufferDef {
+    pub name: Text,
+    pub variable_count: u32,
+    pub size: u32,
+    pub flags: u32,
+    pub cb_type: u32,
+}
+
+// A variable: a record of the variables' table. The nodes of its type follow those of the variables before it.
+pub struct CBufferVariable {
+    pub name: Text,
+    pub offset: u32,
+    pub size: u32,
+    pub flags: VariableFlags,
+    pub default_value: Text,
+    pub texture_start: u32,
+    pub texture_size: u32,
+    pub sampler_start: u32,
+    pub sampler_size: u32,
+}
+
+// A type descriptor: a node of the types' table, before the nodes of its members. The last two fields are what it is as a member of the type
+// above it; a root has none.
+pub struct TypeDesc {
+    pub class: u32,
+    pub var_type: u32,
+    pub rows: u32,
+    pub columns: u32,
+    pub elements: u32,
+    pub member_count: u32,
+    pub extra0: u32,
+    pub extra1: u32,
+    pub extra2: u32,
+    pub extra3: u32,
+    pub name: Text,
+    pub member_name: Text,
+    pub member_offset: u32,
+}

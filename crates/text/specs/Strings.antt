@@ -1,0 +1,37 @@
+-- C strings in a chunk: document 01, refusals 4 and 11 (`read_cstring_checked` in the Rust).
+use mathlib.Core.Bool.{Bool, true, false}
+use mathlib.Core.List.{List, [], _∷_}
+use Prim.Native.Nat.{ℕ, zero, suc, _+_, _≤_}
+use lib.Dec.{eqb}
+use lib.ListN.{take, drop}
+use Rattle.text.specs.Utf8.{wellFormed}
+use Rattle.text.specs.declared.Found.{Found}
+use Rattle.text.specs.declared.Found.the-variants.{At, Bad}
+
+-- The bytes up to the first NUL: they begin at `place`, `n` of them stand before the list.
+unfoldable pub untilNul : List ℕ → ℕ → ℕ → Found
+untilNul [] place n = Bad
+untilNul (b ∷ bs) place n = elim (eqb b 0) [ true ↦ At place n | false ↦ untilNul bs place (suc n) ]
+
+-- The same, if it is UTF-8.
+unfoldable pub ifWellFormed : List ℕ → Found → Found
+ifWellFormed s (At place n) = elim (wellFormed (take n (drop place s))) [ true ↦ At place n | false ↦ Bad ]
+ifWellFormed s Bad = Bad
+
+-- The string at an offset: bad where the offset lies past the end, where no NUL follows, or where it is not UTF-8.
+unfoldable pub cstringAt : List ℕ → ℕ → Found
+cstringAt s at = ifWellFormed s (untilNul (drop at s) at 0)
+
+-- What was found lies within n bytes.
+abbrev pub Within : ℕ → Found → Type 0
+Within n (At place k) = place + k ≤ n
+Within n Bad = Unit
+
+-- Its place and its length; 0 where there is none.
+abbrev pub placeOf : Found → ℕ
+placeOf (At place n) = place
+placeOf Bad = 0
+
+abbrev pub lengthOf : Found → ℕ
+lengthOf (At place n) = n
+lengthOf Bad = 0
