@@ -1,2 +1,3 @@
 -- Laws of reading that the code of the walks rests on.
 pub mod Steps
+pub mod Examples

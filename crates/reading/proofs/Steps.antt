@@ -10,7 +10,7 @@ use Rattle.reflection.specs.declared.Text.{Text}
 use Rattle.reflection.specs.Outcome.{Outcome, ok, refused, because}
 use Rattle.reflection.specs.Reflection.{TypeDesc, Members, noMember, member, memberCount}
 use Rattle.reflection.specs.Texts.{inChunk}
-use Rattle.reading.specs.Step.{Room, Step, andThen, _>>=_, return, refuse, check, textOr, takeBinding, takeBuffer, takeVariable, takeType}
+use Rattle.reading.specs.Step.{Room, room, Step, andThen, _>>=_, return, refuse, check, textOr, takeBinding, takeBuffer, takeVariable, takeType}
 use Rattle.reading.specs.Read.{readMany, readMembers}
 
 pub check-holds : {A : Type 0} (t : Bool) (n : ℕ) (f : Unit {0} → Step A) (room : Room) → t ≡ true → (check t n >>= f) room ≡ f tt room
@@ -33,10 +33,6 @@ module _ {A : Type 0} (n : ℕ) (x : Found) (f : Text → Step A) (room : Room) 
   pub text-bad : x ≡ Bad → (textOr n x >>= f) room ≡ refused (because n)
   unfolding _>>=_ textOr refuse
   text-bad h = ap (λ (y : Found). andThen (textOr n y room) f) h
-
--- The room with so many records of each kind left.
-abbrev pub room : ℕ → ℕ → ℕ → ℕ → Room
-room b f v t = record { bindings = b; buffers = f; variables = v; types = t }
 
 -- A record is taken where there is room, and refused by 15 where there is none.
 module _ {A : Type 0} (b f v t : ℕ) (g : Unit {0} → Step A) where

@@ -1,2 +1,3 @@
 pub mod Step
 pub mod Read
+pub mod Examples

@@ -14,13 +14,16 @@ pub record Room : Type 0 where
   pub variables : ℕ
   pub types : ℕ
 
+abbrev pub room : ℕ → ℕ → ℕ → ℕ → Room
+room b f v t = record { bindings = b; buffers = f; variables = v; types = t }
+
 -- Document 01, "Room".
 abbrev pub fullRoom : Room
-fullRoom = record { bindings = 1024; buffers = 64; variables = 2048; types = 4096 }
+fullRoom = room 1024 64 2048 4096
 
 -- The room of tables of that many words: whole records, at most document 01's room.
 unfoldable pub roomOf : ℕ → ℕ → ℕ → ℕ → Room
-roomOf b f v t = record { bindings = min (b / 12) 1024; buffers = min (f / 7) 64; variables = min (v / 13) 2048; types = min (t / 17) 4096 }
+roomOf b f v t = room (min (b / 12) 1024) (min (f / 7) 64) (min (v / 13) 2048) (min (t / 17) 4096)
 
 abbrev pub Step : Type 0 → Type 0
 Step A = Room → Outcome (A × Room)
@@ -31,13 +34,13 @@ andThen (refused e) f = refused e
 
 infixl 20 _>>=_
 unfoldable pub _>>=_ : {A B : Type 0} → Step A → (A → Step B) → Step B
-_>>=_ m f room = andThen (m room) f
+_>>=_ m f r = andThen (m r) f
 
 unfoldable pub return : {A : Type 0} → A → Step A
-return a room = ok (a, room)
+return a r = ok (a, r)
 
 unfoldable pub refuse : {A : Type 0} → ℕ → Step A
-refuse n room = refused (because n)
+refuse n r = refused (because n)
 
 -- Goes on where the test holds.
 unfoldable pub check : Bool → ℕ → Step (Unit {0})
@@ -55,13 +58,13 @@ oneLess zero left = refused (because 15)
 oneLess (suc n) left = ok (tt, left n)
 
 unfoldable pub takeBinding : Step (Unit {0})
-takeBinding room = oneLess (room .bindings) (λ n. record { bindings = n; buffers = room .buffers; variables = room .variables; types = room .types })
+takeBinding r = oneLess (r .bindings) (λ n. room n (r .buffers) (r .variables) (r .types))
 
 unfoldable pub takeBuffer : Step (Unit {0})
-takeBuffer room = oneLess (room .buffers) (λ n. record { bindings = room .bindings; buffers = n; variables = room .variables; types = room .types })
+takeBuffer r = oneLess (r .buffers) (λ n. room (r .bindings) n (r .variables) (r .types))
 
 unfoldable pub takeVariable : Step (Unit {0})
-takeVariable room = oneLess (room .variables) (λ n. record { bindings = room .bindings; buffers = room .buffers; variables = n; types = room .types })
+takeVariable r = oneLess (r .variables) (λ n. room (r .bindings) (r .buffers) n (r .types))
 
 unfoldable pub takeType : Step (Unit {0})
-takeType room = oneLess (room .types) (λ n. record { bindings = room .bindings; buffers = room .buffers; variables = room .variables; types = n })
+takeType r = oneLess (r .types) (λ n. room (r .bindings) (r .buffers) (r .variables) n)

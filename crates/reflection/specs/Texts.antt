@@ -6,6 +6,9 @@ use lib.Dec.{eqb}
 use lib.ListN.{length}
 use Rattle.words.specs.Parts.{inside, part}
 use Rattle.reflection.specs.declared.Text.{Text}
+use Rattle.reflection.specs.declared.NamePlace.{NamePlace}
+use Rattle.reflection.specs.declared.NamePlace.the-variants.{InPlace, Refused}
+use Rattle.reflection.specs.Outcome.{because}
 
 -- A text in the chunk; an empty text "at place 0" is `inChunk 0 0`.
 abbrev pub inChunk : ℕ → ℕ → Text
@@ -26,3 +29,8 @@ textBytes chunk edits t =
       | true ↦ part chunk (t .place) (t .length)
       | false ↦ elim (eqb (t .source) 1) [ true ↦ part edits (t .place) (t .length) | false ↦ [] ]
     ]
+
+-- What the call beside a name says: the name is in place, or 16.
+abbrev pub namePlace : Bool → NamePlace
+namePlace true = InPlace
+namePlace false = Refused (because 16)

@@ -2,6 +2,21 @@
 use codes::BindingFlags;
 use codes::VariableFlags;
 
+mod names;
+mod tables;
+
+pub use names::in_place;
+pub use names::name_part;
+pub use names::name_refusal;
+pub use tables::binding_at;
+pub use tables::buffer_at;
+pub use tables::put_binding;
+pub use tables::put_buffer;
+pub use tables::put_type;
+pub use tables::put_variable;
+pub use tables::type_at;
+pub use tables::variable_at;
+
 // Where a name or a default lies: in the chunk (source 0) or in the text of edits (source 1), `length` bytes from `place` on.
 pub struct Text {
     pub source: u32,
@@ -12,6 +27,12 @@ pub struct Text {
 // Why an entry refused: the number of document 01's table.
 pub struct Refusal {
     pub number: u32,
+}
+
+// Whether a name lies in the buffer that its source names.
+pub enum NamePlace {
+    InPlace,
+    Refused(Refusal),
 }
 
 // The RD11 words that are free; all 0 for major 4.

@@ -1,2 +1,4 @@
 pub mod Utf8
+pub mod Sequences
 pub mod Strings
+pub mod Same

@@ -1,0 +1,3 @@
+pub mod Parsed
+pub mod Header
+pub mod Filled

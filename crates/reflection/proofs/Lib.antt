@@ -1,0 +1,3 @@
+pub mod Records
+pub mod Rows
+pub mod Texts

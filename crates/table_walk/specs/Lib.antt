@@ -1,0 +1,3 @@
+pub mod Bindings
+pub mod Variables
+pub mod Buffers

@@ -1,0 +1,5 @@
+pub mod Ranges
+pub mod Runs
+pub mod Sequences
+pub mod Strings
+pub mod SameBytes
