@@ -1,10 +1,9 @@
 -- Records of a fixed width in a table of words: what is written as record i is read there, and no other record changes.
 -- One law over the width and the words serves the four tables. A record that lies whole in the table begins at i * width, and two records share no word.
-use mathlib.Core.Path.{_≡_, refl, sym, ap, _∙_}
-use mathlib.Core.Bool.{true, false}
+use mathlib.Core.Path.{_≡_, sym, ap, _∙_}
 use mathlib.Core.List.{List, [], _∷_, _++_}
-use Prim.Native.Nat.{ℕ, zero, suc, _+_, _*_, _/_, _-_, _≤_, _<_}
-use native.Mathlib.Nat.{mul-le-mul-right, div-mul-le-self, suc-mul, mul-add-div-right, div-eq-of-lt, zero-add, add-sub-cancel-left}
+use Prim.Native.Nat.{ℕ, suc, _+_, _*_, _/_, _-_, _≤_, _<_}
+use native.Mathlib.Nat.{mul-le-mul-right, div-mul-le-self, suc-mul, mul-add-div-right, div-eq-of-lt, zero-add}
 use native.Mathlib.Decide.{decLt}
 use native.Mathlib.Omega.{arith}
 use borrow.Author.Tests.{lt-ltb, le-ltb}

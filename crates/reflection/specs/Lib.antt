@@ -4,3 +4,4 @@ pub mod Texts
 pub mod Nodes
 pub mod Records
 pub mod Tables
+pub mod Decode

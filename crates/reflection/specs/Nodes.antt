@@ -20,6 +20,20 @@ unfoldable mutual
   nodesOfMembers noMember = []
   nodesOfMembers (member n o t ms) = nodesOf n o t ++ nodesOfMembers ms
 
+-- The root of a type stands at depth 0 and the deepest node at 64: 65 levels.
+abbrev pub typeLevels : ℕ
+typeLevels = 65
+
+-- The type has at most so many levels.
+unfoldable mutual
+  pub Fits : {N : Type 0} → TypeDesc N → ℕ → Type 0
+  Fits (typeDesc k n ms) zero = ⊥
+  Fits (typeDesc k n ms) (suc levels) = FitsAll ms levels
+
+  pub FitsAll : {N : Type 0} → Members N → ℕ → Type 0
+  FitsAll noMember levels = Unit {0}
+  FitsAll (member n o t ms) levels = Fits t levels × FitsAll ms levels
+
 -- A type built from nodes, what it is as a member, and the nodes that are left.
 pub record Built (N : Type 0) : Type 0 where
   pub type : TypeDesc N

@@ -2,7 +2,7 @@
 -- place in a buffer (`Text`) as reading gives them, or their bytes where two reflections are compared (document 01, "What a reflection holds").
 use mathlib.Core.Bool.{Bool, true, false}
 use mathlib.Core.List.{List, [], _∷_, _++_, map}
-use Prim.Native.Nat.{ℕ, zero, suc}
+use Prim.Native.Nat.{ℕ, zero, suc, _/_, _%_}
 use lib.Dec.{eqb}
 
 -- The numbers of a type descriptor (`TypeDesc`); `extra` is what major 5 adds, 0 for major 4.
@@ -74,6 +74,10 @@ pub record ResourceDef (N D : Type 0) : Type 0 where
   pub creator : N
   pub bindings : List (ResourceBinding N)
   pub constant-buffers : List (CBufferDef N D)
+
+-- The major version: bits 8 to 15 of the version word.
+abbrev pub majorOf : ℕ → ℕ
+majorOf version = version / 256 % 256
 
 -- Whether the chunk is of major 5, and whether its binding records have space and id (stride 40).
 abbrev pub isSm5 : Rd11 → Bool

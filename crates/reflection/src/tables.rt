@@ -124,7 +124,8 @@ fn record_words(table: &[u32], width: usize, i: usize) -> [u32; 17]
     ensures { λ r. ⌜ ((k : ℕ) → k < width → getD r k 0 ≡ recordWord width (now (table .entry)) i k) ⌝ }
 {
     let mut row = [0u32; 17];
-    if i < table.len() / width {
+    let held = table.len() / width;
+    if i < held {
         let at = i * width;
         let end = at + width;
         words::put_words(&mut row, 0, &table[at..end]);

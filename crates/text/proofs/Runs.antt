@@ -1,8 +1,8 @@
--- Running Table 3-7 over a list: byte by byte, over two lists one after the other, and over bytes below 80.
+-- Running Table 3-7 over a list: byte by byte, over two lists one after the other, and over bytes below 0x80.
 use mathlib.Core.Path.{_≡_, refl, sym, ap, _∙_}
-use mathlib.Core.Bool.{Bool, true, false}
+use mathlib.Core.Bool.{true}
 use mathlib.Core.List.{List, [], _∷_, _++_}
-use Prim.Native.Nat.{ℕ, zero, suc, _+_, _<_, _≤_, zero-le}
+use Prim.Native.Nat.{ℕ, suc, _+_, _<_, _≤_, zero-le}
 use native.Mathlib.Numerals.{add-one}
 use native.Mathlib.Omega.{arith}
 use borrow.Author.Tests.{le-leb}
@@ -42,11 +42,12 @@ unfolding wellFormed
 well-formed-append xs ys p q =
     ap whole (run-append (Left.columns []) xs ys ∙ ap (λ (l : Left). run l ys) (whole-is-none (run (Left.columns []) xs) p)) ∙ q
 
--- between two sequences a byte below 80 is a sequence of its own
+-- between two sequences a byte below 0x80 is a sequence of its own
 begun-ascii : (b : ℕ) → b < 0x80 → begun table37 b ≡ Left.columns []
 begun-ascii b h = rw (le-leb 0 b zero-le, le-leb b 0x7f (omega arith))
 
-pub run-ascii-byte : (s : List ℕ) (i : ℕ) → i < length s → getD s i 0 < 0x80 → run (Left.columns []) (drop (i + 1) s) ≡ run (Left.columns []) (drop i s)
+pub run-ascii-byte : (s : List ℕ) (i : ℕ) → i < length s → getD s i 0 < 0x80
+    → run (Left.columns []) (drop (i + 1) s) ≡ run (Left.columns []) (drop i s)
 run-ascii-byte s i h e = sym (run-byte (Left.columns []) s i h ∙ ap (λ (l : Left). run l (drop (i + 1) s)) (begun-ascii (getD s i 0) e))
 
 run-ascii : (bs : List ℕ) → ((k : ℕ) → k < length bs → getD bs k 0 < 0x80) → run (Left.columns []) bs ≡ Left.columns []
@@ -55,7 +56,7 @@ run-ascii [] h = refl
 run-ascii (b ∷ bs) h =
     ap (λ (l : Left). run l bs) (begun-ascii b (h 0 (omega arith))) ∙ run-ascii bs (λ k g. h (suc k) (omega arith))
 
--- a list whose bytes are all below 80 is well-formed
+-- a list whose bytes are all below 0x80 is well-formed
 pub well-formed-ascii : (bs : List ℕ) → ((k : ℕ) → k < length bs → getD bs k 0 < 0x80) → wellFormed bs ≡ true
 unfolding wellFormed
 well-formed-ascii bs h = ap whole (run-ascii bs h)

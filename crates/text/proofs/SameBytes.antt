@@ -1,19 +1,15 @@
 -- `sameBytes` is true exactly where the two lists are equal: by the lists, one byte of each at a time.
-use mathlib.Core.Path.{_≡_, refl, sym, ap, subst, _∙_}
-use mathlib.Core.Bool.{Bool, true, false, _&&_}
+use mathlib.Core.Path.{_≡_, refl, ap, subst}
+use mathlib.Core.Bool.{true, false}
 use mathlib.Core.List.{List, [], _∷_}
 use mathlib.Core.Logic.{_↔_}
 use Prim.Native.Nat.{ℕ, _<_}
-use native.Mathlib.Omega.{arith}
 use borrow.Author.Tests.{eq-eqb, eqb-true}
 use lib.Dec.{eqb}
 use lib.ListN.{length, getD}
 use lib.Seq.{ext-getD}
 use Rattle.text.specs.Same.{sameBytes}
-
-and-true : (a b : Bool) → (a && b) ≡ true → (a ≡ true) × (b ≡ true)
-and-true true b e = (refl, e)
-and-true false b e = (e, cc)
+use Rattle.text.proofs.Bools.{and-true, false-unless}
 
 pub same-bytes-equal : (xs ys : List ℕ) → sameBytes xs ys ≡ true → xs ≡ ys
 unfolding sameBytes
@@ -36,10 +32,6 @@ equal-same-bytes xs ys e = subst (λ (l : List ℕ). sameBytes xs l ≡ true) e 
 
 pub same-bytes-iff : (xs ys : List ℕ) → (sameBytes xs ys ≡ true) ↔ (xs ≡ ys)
 same-bytes-iff xs ys = (same-bytes-equal xs ys, equal-same-bytes xs ys)
-
-false-unless : (b : Bool) → (b ≡ true → ⊥) → b ≡ false
-false-unless true h = absurd (h refl)
-false-unless false h = refl
 
 -- lists that are not as long, or differ at an index, are not the same
 pub other-length : (xs ys : List ℕ) → (length xs ≡ length ys → ⊥) → sameBytes xs ys ≡ false

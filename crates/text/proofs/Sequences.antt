@@ -1,12 +1,12 @@
--- The numbers by which a sequence is read are those of Table 3-7: shown by one test over every byte from 80 on. With them, what each byte of a
--- sequence does to the run.
+-- The numbers by which `sequence_at` goes are those of Table 3-7: one test, computed over every byte from 0x80 on. From it follows what each byte
+-- of a sequence does to the run.
 use mathlib.Core.Path.{_≡_, refl, sym, ap, _∙_}
 use mathlib.Core.Bool.{Bool, true, false, _&&_, cond}
 use mathlib.Core.List.{List, [], _∷_}
 use Prim.Native.Nat.{ℕ, zero, suc, _+_, _-_, _<_, _≤_}
 use native.Mathlib.Omega.{arith}
 use borrow.Author.Tests.{le-leb, lt-leb, eq-eqb, ne-eqb}
-use lib.Dec.{T, eqb, leb, eqb→eq}
+use lib.Dec.{T, eqb, eqb→eq}
 use lib.ListN.{length, getD, drop, replicate}
 use Rattle.text.specs.Utf8.{Span, Left, holds, tail, table37, begun, run, whole}
 use Rattle.text.specs.Sequences.{tailsAfter, lowestAfter, highestAfter}
@@ -18,7 +18,7 @@ abbrev pub awaits : ℕ → ℕ → ℕ → Left
 awaits zero low high = Left.columns []
 awaits (suc left) low high = Left.columns (record { low = low; high = high } ∷ replicate left tail)
 
--- a test of equality
+-- whether two are equal, as a test that computes
 abbrev sameSpans : List Span → List Span → Bool
 sameSpans [] [] = true
 sameSpans [] (y ∷ ys) = false
@@ -62,6 +62,7 @@ byNumbers b = cond (eqb (tailsAfter b) 0) Left.illFormed (awaitsAfter b)
 agrees : ℕ → Bool
 agrees b = sameLeft (begun table37 b) (byNumbers b)
 
+-- at each of the 128 bytes from 0x80 on
 table-agrees : T (allOf agrees 0x80 0x80)
 unfolding agrees byNumbers tailsAfter lowestAfter highestAfter
 table-agrees = tt
@@ -71,7 +72,8 @@ unfolding agrees
 begun-by-numbers b h g = lefts-equal (begun table37 b) (byNumbers b) (at-each agrees 0x80 0x80 table-agrees b h g)
 
 -- At the first byte of a sequence of two bytes or more.
-module _ (s : List ℕ) (at left : ℕ) (in-s : at < length s) (from-80 : 0x80 ≤ getD s at 0) (byte : getD s at 0 < 256) (is-left : left ≡ tailsAfter (getD s at 0)) where
+module _ (s : List ℕ) (at left : ℕ) (in-s : at < length s) (from-80 : 0x80 ≤ getD s at 0) (byte : getD s at 0 < 256)
+    (is-left : left ≡ tailsAfter (getD s at 0)) where
   numbered : (none : Bool) → eqb (tailsAfter (getD s at 0)) 0 ≡ none
       → run (Left.columns []) (drop at s) ≡ run (cond none Left.illFormed (awaitsAfter (getD s at 0))) (drop (at + 1) s)
   unfolding byNumbers

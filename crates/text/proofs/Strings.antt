@@ -1,15 +1,14 @@
 -- The scan for a NUL, byte by byte, and what its end says of the string.
-use mathlib.Core.Path.{_≡_, refl, sym, ap, _∙_}
+use mathlib.Core.Path.{_≡_, sym, ap, _∙_}
 use mathlib.Core.Bool.{Bool, true, false}
-use mathlib.Core.List.{List, [], _∷_, _++_}
-use Prim.Native.Nat.{ℕ, zero, suc, _+_, _-_, _<_, _≤_}
+use mathlib.Core.List.{List}
+use Prim.Native.Nat.{ℕ, _+_, _-_, _<_, _≤_}
 use native.Mathlib.Numerals.{add-one}
 use native.Mathlib.Omega.{arith}
 use borrow.Author.Count.{below-more}
 use borrow.Author.Tests.{eq-eqb, ne-eqb}
 use lib.ListN.{length, getD, take, drop, drop-of-length-le, length-drop}
 use lib.Seq.{drop-cons, getD-take, getD-drop, length-take-le}
-use Rattle.text.specs.declared.Found.{Found}
 use Rattle.text.specs.declared.Found.the-variants.{At, Bad}
 use Rattle.text.specs.Utf8.{wellFormed}
 use Rattle.text.specs.Strings.{untilNul, ifWellFormed, cstringAt}
@@ -40,18 +39,20 @@ module _ (s : List ℕ) (place : ℕ) where
   unfolding cstringAt ifWellFormed
   cstring-ends n ok e w = ap (ifWellFormed s) e ∙ ap (λ (t : Bool). elim t [ true ↦ At place n | false ↦ Bad ]) w
 
--- The bytes from `place` up to `end` are all below 80.
+-- The bytes from `place` up to `end` are all below 0x80.
 abbrev pub AsciiFrom : List ℕ → ℕ → ℕ → Type 0
 AsciiFrom s place end = (k : ℕ) → k < end → place ≤ k → getD s k 0 < 0x80
 
 -- then they are well-formed
-pub part-ascii : (s : List ℕ) (place end : ℕ) → place ≤ end → end ≤ length s → AsciiFrom s place end → wellFormed (take (end - place) (drop place s)) ≡ true
+pub part-ascii : (s : List ℕ) (place end : ℕ) → place ≤ end → end ≤ length s → AsciiFrom s place end
+    → wellFormed (take (end - place) (drop place s)) ≡ true
 part-ascii s place end h g below =
-    let n : length (take (end - place) (drop place s)) ≡ end - place = length-take-le (end - place) (drop place s) (omega (arith, length-drop place s)) in
+    let n : length (take (end - place) (drop place s)) ≡ end - place =
+    length-take-le (end - place) (drop place s) (omega (arith, length-drop place s)) in
     well-formed-ascii (take (end - place) (drop place s))
     (λ k in-part. rw (getD-take (end - place) (drop place s) k 0 (omega arith), getD-drop place s k 0) (below (place + k) (omega arith) (omega arith)))
 
--- The flag after the byte at i: it falls at a byte from 80 on, and stays as it was at one below.
+-- The flag after the byte at i: it falls at a byte from 0x80 on, and stays as it was at one below.
 module _ (s : List ℕ) (place i : ℕ) (flag : Bool) where
   pub flag-fallen : flag ≡ false → flag ≡ true → AsciiFrom s place (i + 1)
   flag-fallen e f = let z : _≡_ {A = ℕ} 0 1 = cc in absurd (omega arith)

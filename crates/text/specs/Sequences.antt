@@ -1,6 +1,6 @@
 -- Table 3-7 by the first byte of a sequence: how many bytes follow it, and between which the second lies. `utf8_ok` goes by these numbers;
 -- proofs/Sequences.antt shows that they are the table's.
-use mathlib.Core.Bool.{Bool, true, false, cond}
+use mathlib.Core.Bool.{false, cond}
 use mathlib.Core.Path.{_≡_}
 use mathlib.Core.List.{List, []}
 use Prim.Native.Nat.{ℕ, _<_, _≤_}

@@ -118,7 +118,7 @@ pub fn utf8_ok(s: &[u8]) -> bool
     true
 }
 
-// The string at an offset, up to its NUL. Bytes below 80 are well-formed as they are, so most strings are passed over once.
+// The string at an offset, up to its NUL. Bytes below 0x80 are well-formed as they are, so that most strings need no second pass.
 pub fn cstring_at(s: &[u8], at: usize) -> Found
     ensures { λ r. ⌜ (r ≡ cstringAt (now (s .entry)) at) × Within (length (now (s .entry))) r ⌝ }
 {

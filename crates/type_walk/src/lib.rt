@@ -1,4 +1,11 @@
 // The walk of a type descriptor: a type walks its members and each member walks its type, one level deeper (document 01, "Walk order").
+ghost use mathlib.Core.Path.{_≡_};
+ghost use Prim.Native.Nat.{_+_, _*_, _-_, _≤_};
+ghost use lib.ListN.{length, take};
+ghost use Rattle.text.specs.Strings.{Within};
+ghost use Rattle.reflection.specs.Tables.{typeRecord};
+ghost use Rattle.reading.specs.Read.{typeStride, wordIf, typeNameAt, onPath};
+ghost use Rattle.type_walk.specs.Walk.{foundText, nodeFrom, turned, typeProgress, membersProgress, Ready, Walked};
 use reflection::Refusal;
 use reflection::Text;
 use reflection::TypeDesc;
@@ -14,4 +21,221 @@ pub enum Walk {
 pub struct Member {
     pub name: Text,
     pub offset: u32,
+}
+
+// The word at `at` where the record has it, else 0.
+pub fn word_if(s: &[u8], long: bool, at: usize) -> u32
+    ensures { λ r. ⌜ r ≡ wordIf long (now (s .entry)) at ⌝ }
+{
+    if long { words::word_at(s, at) } else { 0 }
+}
+
+// How many bytes a type descriptor takes.
+fn type_stride(sm5: bool) -> usize
+    ensures { λ r. ⌜ (r ≡ typeStride sm5) × (r ≤ 40) ⌝ }
+{
+    if sm5 { 36 } else { 16 }
+}
+
+// The name of the type at `at`: only major 5 has one, and offset 0 means empty.
+fn type_name_at(s: &[u8], at: u32, sm5: bool) -> Found
+    ensures { λ r. ⌜ (r ≡ typeNameAt (now (s .entry)) sm5 at) × Within (length (now (s .entry))) r ⌝ }
+{
+    if sm5 {
+        let base = at as usize;
+        let offset = words::word_at(s, base + 32);
+        if offset == 0 {
+            Found::At(0, 0)
+        } else {
+            text::cstring_at(s, offset as usize)
+        }
+    } else {
+        Found::At(0, 0)
+    }
+}
+
+// What was found, as a text of the chunk; empty where it is bad.
+fn found_text(found: Found) -> Text
+    requires { ⌜ Within 65536 found ⌝ }
+    ensures { λ r. ⌜ r ≡ foundText found ⌝ }
+{
+    match found {
+        Found::At(place, n) => Text {
+            source: 0,
+            place: place as u32,
+            length: n as u32,
+        },
+        Found::Bad => Text {
+            source: 0,
+            place: 0,
+            length: 0,
+        },
+    }
+}
+
+// The node of the type at `at`, whose name is known and which `member` leads to.
+fn type_node(s: &[u8], at: u32, sm5: bool, name: Text, member: Member) -> TypeDesc
+    requires { ⌜ name ≡ foundText (typeNameAt (now s) sm5 at) ⌝ }
+    ensures { λ r. ⌜ r ≡ typeRecord (nodeFrom (now (s .entry)) sm5 at (member .name) (member .offset)) ⌝ }
+{
+    let base = at as usize;
+    let member_name = member.name;
+    TypeDesc {
+        class: words::low_at(s, base),
+        var_type: words::high_at(s, base),
+        rows: words::low_at(s, base + 4),
+        columns: words::high_at(s, base + 4),
+        elements: words::low_at(s, base + 8),
+        member_count: words::high_at(s, base + 8),
+        extra0: word_if(s, sm5, base + 16),
+        extra1: word_if(s, sm5, base + 20),
+        extra2: word_if(s, sm5, base + 24),
+        extra3: word_if(s, sm5, base + 28),
+        name: name,
+        member_name: member_name,
+        member_offset: member.offset,
+    }
+}
+
+// Whether `at` is among the first `depth` offsets of the path.
+fn on_path(path: &[u32], depth: usize, at: u32) -> bool
+    requires { ⌜ depth ≤ length (now path) ⌝ }
+    ensures { λ r. ⌜ r ≡ onPath at (take depth (now (path .entry))) ⌝ }
+{
+    let mut i = 0;
+    while i < depth {
+        if path[i] == at {
+            return true;
+        }
+        i += 1;
+    }
+    false
+}
+
+// Walks the type at `at`: its node is node n.
+pub fn walk_type(
+    s: &[u8],
+    at: u32,
+    sm5: bool,
+    levels: usize,
+    member: Member,
+    capacity: usize,
+    types: &mut [u32],
+    path: &mut [u32],
+    n: usize,
+) -> Walk
+    requires { ⌜ Ready (now s) levels capacity n (now types) (now path) ⌝ }
+    ensures { λ r. ⌜ Walked
+        (typeProgress (now (s .entry)) sm5 levels (turned (take (65 - levels) (now (path .entry)))) at (member .name) (member .offset) (take (n * 17) (now (types .entry))))
+        levels capacity n (now (types .entry)) (now (types .exit)) (now (path .entry)) (now (path .exit)) r ⌝ }
+{
+    if levels == 0 {
+        return Walk::Refused(Refusal { number: 13 });
+    }
+    let depth = 65 - levels;
+    if on_path(&path[..], depth, at) {
+        return Walk::Refused(Refusal { number: 14 });
+    }
+    if capacity <= n {
+        return Walk::Refused(Refusal { number: 15 });
+    }
+    let base = at as usize;
+    if words::inside(s.len(), base, type_stride(sm5)) {
+        let name = type_name_at(s, at, sm5);
+        let node = type_node(s, at, sm5, found_text(name), member);
+        reflection::put_type(types, n, node);
+        path[depth] = at;
+        let count = words::high_at(s, base + 8);
+        let first = words::word_at(s, base + 12);
+        let answer = walk_members(
+            s,
+            first,
+            count,
+            sm5,
+            levels - 1,
+            capacity,
+            types,
+            path,
+            n + 1,
+        );
+        match answer {
+            Walk::Refused(refusal) => Walk::Refused(refusal),
+            Walk::Next(m) => match name {
+                Found::At(_, _) => Walk::Next(m),
+                Found::Bad => Walk::Refused(Refusal { number: 11 }),
+            },
+        }
+    } else {
+        Walk::Refused(Refusal { number: 7 })
+    }
+}
+
+// Walks `count` members, whose records begin at `first`: the node of the first one's type is node n. A loop, so that the stack holds at most two
+// frames for each level.
+fn walk_members(
+    s: &[u8],
+    first: u32,
+    count: u32,
+    sm5: bool,
+    levels: usize,
+    capacity: usize,
+    types: &mut [u32],
+    path: &mut [u32],
+    n: usize,
+) -> Walk
+    requires { ⌜ Ready (now s) levels capacity n (now types) (now path) ⌝ }
+    ensures { λ r. ⌜ Walked
+        (membersProgress (now (s .entry)) sm5 levels (turned (take (65 - levels) (now (path .entry)))) count first (take (n * 17) (now (types .entry))))
+        levels capacity n (now (types .entry)) (now (types .exit)) (now (path .entry)) (now (path .exit)) r ⌝ }
+{
+    let mut next = n;
+    let mut at = first as usize;
+    let mut left = count;
+    while 0 < left {
+        if words::inside(s.len(), at, 12) {
+            let name = words::word_at(s, at);
+            let below = words::word_at(s, at + 4);
+            let offset = words::word_at(s, at + 8);
+            let found = text::cstring_at(s, name as usize);
+            match found {
+                Found::Bad => {
+                    return Walk::Refused(Refusal { number: 11 });
+                }
+                Found::At(place, long) => {
+                    let member = Member {
+                        name: Text {
+                            source: 0,
+                            place: place as u32,
+                            length: long as u32,
+                        },
+                        offset: offset,
+                    };
+                    let answer = walk_type(
+                        s,
+                        below,
+                        sm5,
+                        levels,
+                        member,
+                        capacity,
+                        types,
+                        path,
+                        next,
+                    );
+                    match answer {
+                        Walk::Refused(refusal) => {
+                            return Walk::Refused(refusal);
+                        }
+                        Walk::Next(m) => {
+                            next = m;
+                        }
+                    }
+                }
+            }
+        } else {
+            return Walk::Refused(Refusal { number: 7 });
+        }
+        at += 12;
+        left -= 1;
+    }
+    Walk::Next(next)
 }

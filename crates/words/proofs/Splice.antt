@@ -2,9 +2,9 @@
 use mathlib.Core.Path.{_≡_, refl, sym, ap, _∙_}
 use mathlib.Core.List.{List, [], _∷_, _++_, append-nil}
 use Prim.Native.Nat.{ℕ, zero, suc, _+_, _-_, _≤_, _<_, min}
+use native.Mathlib.Numerals.{add-one}
 use native.Mathlib.Omega.{arith}
 use lib.ListN.{length, getD, set, take, drop, replicate, length-set, length-append, drop-of-length-le, length-replicate, replicate-append-replicate}
-use native.Mathlib.Numerals.{add-one}
 use lib.Seq.{set-out, take-all, take-suc, take-at, drop-at, length-take-le, getD-set-other, getD-take, getD-append-add}
 use Rattle.words.specs.Splice.{splice, splice-nil, splice-cons, splice-eq, splice-snoc}
 

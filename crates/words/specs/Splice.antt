@@ -1,11 +1,10 @@
 -- A list with a run of elements written over it from a place on, and the laws that compose such writes; over the element type.
 use mathlib.Core.Path.{_≡_, refl, sym, ap, _∙_}
-use Prim.Native.Nat.{ℕ, zero, suc, _+_, _≤_, _<_}
-use native.Mathlib.Nat.{add-zero, add-suc, suc-add, add-assoc}
-use native.Mathlib.Numerals.{add-one}
+use Prim.Native.Nat.{ℕ, suc, _+_, _≤_}
+use native.Mathlib.Nat.{add-zero, add-suc, suc-add}
 use native.Mathlib.Omega.{arith}
 use mathlib.Core.List.{List, [], _∷_, _++_}
-use lib.ListN.{length, getD, set, take, drop, length-set, length-append}
+use lib.ListN.{length, set, take, drop, length-append}
 use lib.Seq.{sets, length-sets, sets-eq}
 
 module _ {ℓ} {A : Type ℓ} where

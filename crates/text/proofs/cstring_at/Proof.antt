@@ -1,12 +1,12 @@
 -- `text::cstring_at` meets its contract. The invariant of its loop: the scan from i on decides, and while the flag stands the bytes passed are all
--- below 80, so that a string of such bytes needs no second pass.
-use mathlib.Core.Path.{_≡_, refl, sym, ap, _∙_}
+-- below 0x80, so that a string of such bytes needs no second pass.
+use mathlib.Core.Path.{_≡_, sym, ap, _∙_}
 use mathlib.Core.Bool.{true, false}
 use mathlib.Core.Logic.{⊎-elim}
-use Prim.Native.Nat.{ℕ, _+_, _≤_, _<_, _-_}
+use Prim.Native.Nat.{_+_, _≤_, _-_}
 use native.Mathlib.Omega.{arith}
 use borrow.Author.Needs.{needs}
-use lib.ListN.{length, drop, getD}
+use lib.ListN.{length, drop}
 use Rattle.text.specs.Strings.{untilNul}
 use Rattle.text.proofs.Strings.{until-nul-end, until-nul-here, until-nul-more, cstring-no-nul, cstring-ends, AsciiFrom, part-ascii, flag-fallen, flag-kept}
 use Rattle.text.proofs.cstring_at.Statement.{statement}
@@ -20,7 +20,8 @@ abbrev μ-loop : tie.MeasureT-loop
 μ-loop s at ascii₀ i₀ ascii i = length s - i
 
 loop-holds : tie.Need-loop-holds Inv-loop μ-loop
-loop-holds c = let at = c .before .args .at in
+loop-holds c =
+    let at = c .before .args .at in
     let none : 0 ≡ at - at = omega arith in
     (omega arith, ap (untilNul (drop at (c .before .args .s .now)) at) none, λ e k h g. absurd (omega arith))
 
@@ -31,10 +32,14 @@ sub-t11 : tie.Need-sub-t11 Inv-loop μ-loop
 sub-t11 c = search needs
 
 returns : tie.Need-returns Inv-loop μ-loop
-returns c = let s = c .before .before .before .before .before .before .args .s .now in
+returns c =
+    let s = c .before .before .before .before .before .before .args .s .now in
     let at = c .before .before .before .before .before .before .args .at in
-    let i = c .before .before .before .before .loop .i in
-    (sym (cstring-ends s at (i - at) true (c .before .before .before .before .loop .inv .1 ∙ until-nul-here s at i (i - at) (c .before .before .before .loop-test .taken) (c .before .if1 .taken)) (part-ascii s at i (c .before .before .before .before .loop .inv .0) (omega arith) (c .before .before .before .before .loop .inv .2 (c .if2 .taken)))), omega arith)
+    let turn = c .before .before .before .before .loop in
+    let i = turn .i in
+    let ends = turn .inv .1 ∙ until-nul-here s at i (i - at) (c .before .before .before .loop-test .taken) (c .before .if1 .taken) in
+    let formed = part-ascii s at i (turn .inv .0) (omega arith) (turn .inv .2 (c .if2 .taken)) in
+    (sym (cstring-ends s at (i - at) true ends formed), omega arith)
 
 sub-utf8-ok : tie.Need-sub-utf8-ok Inv-loop μ-loop
 sub-utf8-ok c = search needs
@@ -52,16 +57,22 @@ sub-t17 : tie.Need-sub-t17 Inv-loop μ-loop
 sub-t17 c = search needs
 
 returns-2 : tie.Need-returns-2 Inv-loop μ-loop
-returns-2 c = let s = c .before .before .before .before .before .before .before .before .before .args .s .now in
+returns-2 c =
+    let s = c .before .before .before .before .before .before .before .before .before .args .s .now in
     let at = c .before .before .before .before .before .before .before .before .before .args .at in
-    let i = c .before .before .before .before .before .before .before .loop .i in
-    (sym (cstring-ends s at (i - at) true (c .before .before .before .before .before .before .before .loop .inv .1 ∙ until-nul-here s at i (i - at) (c .before .before .before .before .before .before .loop-test .taken) (c .before .before .before .before .if1 .taken)) (sym (c .before .utf8-ok .ensures) ∙ c .if3 .taken)), omega arith)
+    let turn = c .before .before .before .before .before .before .before .loop in
+    let i = turn .i in
+    let ends = turn .inv .1 ∙ until-nul-here s at i (i - at) (c .before .before .before .before .before .before .loop-test .taken) (c .before .before .before .before .if1 .taken) in
+    (sym (cstring-ends s at (i - at) true ends (sym (c .before .utf8-ok .ensures) ∙ c .if3 .taken)), omega arith)
 
 returns-3 : tie.Need-returns-3 Inv-loop μ-loop
-returns-3 c = let s = c .before .before .before .before .before .before .before .before .before .args .s .now in
+returns-3 c =
+    let s = c .before .before .before .before .before .before .before .before .before .args .s .now in
     let at = c .before .before .before .before .before .before .before .before .before .args .at in
-    let i = c .before .before .before .before .before .before .before .loop .i in
-    (sym (cstring-ends s at (i - at) false (c .before .before .before .before .before .before .before .loop .inv .1 ∙ until-nul-here s at i (i - at) (c .before .before .before .before .before .before .loop-test .taken) (c .before .before .before .before .if1 .taken)) (sym (c .before .utf8-ok .ensures) ∙ c .if3 .left)), tt)
+    let turn = c .before .before .before .before .before .before .before .loop in
+    let i = turn .i in
+    let ends = turn .inv .1 ∙ until-nul-here s at i (i - at) (c .before .before .before .before .before .before .loop-test .taken) (c .before .before .before .before .if1 .taken) in
+    (sym (cstring-ends s at (i - at) false ends (sym (c .before .utf8-ok .ensures) ∙ c .if3 .left)), tt)
 
 add-i : tie.Need-add-i Inv-loop μ-loop
 add-i c = search needs
@@ -70,22 +81,25 @@ loop-less : tie.Need-loop-less Inv-loop μ-loop
 loop-less c = search needs
 
 loop-again : tie.Need-loop-again Inv-loop μ-loop
-loop-again c = let s = c .before .before .before .before .before .before .args .s .now in
+loop-again c =
+    let s = c .before .before .before .before .before .before .args .s .now in
     let at = c .before .before .before .before .before .before .args .at in
-    let i = c .before .before .before .before .loop .i in
-    let more : i - at + 1 ≡ i + 1 - at = omega arith in (
+    let turn = c .before .before .before .before .loop in
+    let i = turn .i in
+    let longer : i - at + 1 ≡ i + 1 - at = omega arith in (
       omega arith,
-      c .before .before .before .before .loop .inv .1 ∙ until-nul-more s at i (i - at) (c .before .before .before .loop-test .taken) (c .before .if1 .left) ∙ ap (untilNul (drop (i + 1) s) at) more,
+      turn .inv .1 ∙ until-nul-more s at i (i - at) (c .before .before .before .loop-test .taken) (c .before .if1 .left)
+          ∙ ap (untilNul (drop (i + 1) s) at) longer,
       ⊎-elim (λ w. flag-fallen s at i (c .if4 .ascii) (w .1))
-          (λ w. flag-kept s at i (c .if4 .ascii) (c .before .before .before .before .loop .ascii) (w .1) (c .before .before .before .before .loop .inv .2) (w .0 .left))
-          (c .if4 .came),
+          (λ w. flag-kept s at i (c .if4 .ascii) (turn .ascii) (w .1) (turn .inv .2) (w .0 .left)) (c .if4 .came),
     )
 
 returns-4 : tie.Need-returns-4 Inv-loop μ-loop
-returns-4 c = let s = c .before .before .before .args .s .now in
+returns-4 c =
+    let s = c .before .before .before .args .s .now in
     let at = c .before .before .before .args .at in
-    let i = c .before .loop .i in
-    (sym (cstring-no-nul s at (c .before .loop .inv .1 ∙ until-nul-end s at i (i - at) (c .loop-test .left))), tt)
+    let turn = c .before .loop in
+    (sym (cstring-no-nul s at (turn .inv .1 ∙ until-nul-end s at (turn .i) (turn .i - at) (c .loop-test .left))), tt)
 
 pub cstring-at-spec : {M : Type 1} → statement M
 cstring-at-spec =

@@ -28,7 +28,9 @@ shared-slice-read-if2-2 : tie.Need-shared-slice-read-if2-2 Inv-loop μ-loop
 shared-slice-read-if2-2 c = search needs
 
 returns-2 : tie.Need-returns-2 Inv-loop μ-loop
-returns-2 c = sym (other-byte (c .before .before .before .before .before .before .args .a .now) (c .before .before .before .before .before .before .args .b .now) (c .before .before .before .before .loop .i) (c .if2 .taken))
+returns-2 c =
+    let start = c .before .before .before .before .before .before in
+    sym (other-byte (start .args .a .now) (start .args .b .now) (c .before .before .before .before .loop .i) (c .if2 .taken))
 
 add-i : tie.Need-add-i Inv-loop μ-loop
 add-i c = search needs
@@ -40,7 +42,9 @@ loop-again : tie.Need-loop-again Inv-loop μ-loop
 loop-again c = (omega arith, below-more _ _ (c .before .before .before .before .loop .inv .1) (c .if2 .left))
 
 returns-3 : tie.Need-returns-3 Inv-loop μ-loop
-returns-3 c = sym (all-bytes (c .before .before .before .args .a .now) (c .before .before .before .args .b .now) (c .before .before .if1 .left) (λ k h. c .before .loop .inv .1 k (omega arith)))
+returns-3 c =
+    let start = c .before .before .before in
+    sym (all-bytes (start .args .a .now) (start .args .b .now) (c .before .before .if1 .left) (λ k h. c .before .loop .inv .1 k (omega arith)))
 
 pub same-text-spec : {M : Type 1} → statement M
 same-text-spec =

@@ -2,7 +2,7 @@
 -- on do. Each way out is one law of Sequences.
 use mathlib.Core.Path.{_≡_, sym, ap, _∙_}
 use mathlib.Core.List.{[]}
-use Prim.Native.Nat.{ℕ, _+_, _<_, _≤_}
+use Prim.Native.Nat.{ℕ, _<_, _≤_}
 use native.Mathlib.Omega.{arith}
 use borrow.Author.Needs.{needs}
 use lib.ListN.{length, drop, getD}
@@ -26,15 +26,19 @@ add-t12 : tie.Need-add-t12 Inv-loop μ-loop
 add-t12 c = search needs
 
 returns : tie.Need-returns Inv-loop μ-loop
-returns c = (omega arith, omega arith, run-ascii-byte (c .before .before .before .args .s .now) (c .before .before .before .args .at) (c .before .before .before .pre) (c .if1 .taken))
+returns c =
+    let start = c .before .before .before in
+    (omega arith, omega arith, run-ascii-byte (start .args .s .now) (start .args .at) (start .pre) (c .if1 .taken))
 
 tails-after-requires : tie.Need-tails-after-requires Inv-loop μ-loop
 tails-after-requires c κs = search needs
 
 returns-2 : tie.Need-returns-2 Inv-loop μ-loop
 returns-2 c =
-    run-no-first (c .before .before .before .before .before .args .s .now) (c .before .before .before .before .before .args .at) (c .before .tails-after .result) (c .before .before .before .before .before .pre) (c .before .before .if1 .left)
-    (omega (arith, c .before .before .before .shared-slice-known2 .given (c .before .before .before .before .before .args .at))) (c .before .tails-after .ensures) (c .if2 .taken)
+    let start = c .before .before .before .before .before in
+    let byte : getD (start .args .s .now) (start .args .at) 0 < 256 = omega (arith, c .before .before .before .shared-slice-known2 .given (start .args .at)) in
+    run-no-first (start .args .s .now) (start .args .at) (c .before .tails-after .result) (start .pre) (c .before .before .if1 .left) byte
+    (c .before .tails-after .ensures) (c .if2 .taken)
 
 lowest-after-requires : tie.Need-lowest-after-requires Inv-loop μ-loop
 lowest-after-requires c κs = search needs
@@ -46,25 +50,39 @@ add-i : tie.Need-add-i Inv-loop μ-loop
 add-i c = search needs
 
 loop-holds : tie.Need-loop-holds Inv-loop μ-loop
-loop-holds c = (
-  omega arith,
-  omega arith,
-  run-first (c .before .before .before .before .before .before .before .args .s .now) (c .before .before .before .before .before .before .before .args .at) (c .before .before .before .tails-after .result) (c .before .before .before .before .before .before .before .pre) (c .before .before .before .before .if1 .left)
-      (omega (arith, c .before .before .before .before .before .shared-slice-known2 .given (c .before .before .before .before .before .before .before .args .at))) (c .before .before .before .tails-after .ensures)
-      (c .before .lowest-after .result) (c .highest-after .result) (c .before .before .if2 .left) (c .before .lowest-after .ensures) (c .highest-after .ensures),
-)
+loop-holds c =
+    let start = c .before .before .before .before .before .before .before in
+    let byte : getD (start .args .s .now) (start .args .at) 0 < 256 = omega (arith, c .before .before .before .before .before .shared-slice-known2 .given (start .args .at)) in
+    let tails = c .before .before .before .tails-after in
+    let low = c .before .lowest-after in
+    let high = c .highest-after in (
+      omega arith,
+      omega arith,
+      run-first (start .args .s .now) (start .args .at) (tails .result) (start .pre) (c .before .before .before .before .if1 .left) byte
+          (tails .ensures) (low .result) (high .result) (c .before .before .if2 .left) (low .ensures) (high .ensures),
+    )
 
 returns-3 : tie.Need-returns-3 Inv-loop μ-loop
-returns-3 c = ap whole (sym (c .before .before .loop .inv .2)) ∙ run-cut-short (c .before .before .before .before .before .before .before .before .before .before .args .s .now) (c .before .before .loop .i) (c .before .before .loop .low) (c .before .before .loop .high) (c .before .before .loop .left) (omega arith) (omega arith)
+returns-3 c =
+    let turn = c .before .before .loop in
+    let s = c .before .before .before .before .before .before .before .before .before .before .args .s .now in
+    ap whole (sym (turn .inv .2)) ∙ run-cut-short s (turn .i) (turn .low) (turn .high) (turn .left) (omega arith) (omega arith)
 
 shared-slice-read-b : tie.Need-shared-slice-read-b Inv-loop μ-loop
 shared-slice-read-b c = search needs
 
 returns-4 : tie.Need-returns-4 Inv-loop μ-loop
-returns-4 c = ap whole (sym (c .before .before .before .before .loop .inv .2)) ∙ run-too-low (c .before .before .before .before .before .before .before .before .before .before .before .before .args .s .now) (c .before .before .before .before .loop .i) (c .before .before .before .before .loop .low) (c .before .before .before .before .loop .high) (c .before .before .before .before .loop .left) (omega arith) (omega arith) (omega arith)
+returns-4 c =
+    let turn = c .before .before .before .before .loop in
+    let s = c .before .before .before .before .before .before .before .before .before .before .before .before .args .s .now in
+    ap whole (sym (turn .inv .2)) ∙ run-too-low s (turn .i) (turn .low) (turn .high) (turn .left) (omega arith) (omega arith) (omega arith)
 
 returns-5 : tie.Need-returns-5 Inv-loop μ-loop
-returns-5 c = ap whole (sym (c .before .before .before .before .before .loop .inv .2)) ∙ run-too-high (c .before .before .before .before .before .before .before .before .before .before .before .before .before .args .s .now) (c .before .before .before .before .before .loop .i) (c .before .before .before .before .before .loop .low) (c .before .before .before .before .before .loop .high) (c .before .before .before .before .before .loop .left) (omega arith) (omega arith) (omega arith) (omega arith)
+returns-5 c =
+    let turn = c .before .before .before .before .before .loop in
+    let s = c .before .before .before .before .before .before .before .before .before .before .before .before .before .args .s .now in
+    ap whole (sym (turn .inv .2))
+    ∙ run-too-high s (turn .i) (turn .low) (turn .high) (turn .left) (omega arith) (omega arith) (omega arith) (omega arith)
 
 sub-left : tie.Need-sub-left Inv-loop μ-loop
 sub-left c = search needs
@@ -76,11 +94,23 @@ loop-less : tie.Need-loop-less Inv-loop μ-loop
 loop-less c = search needs
 
 loop-again : tie.Need-loop-again Inv-loop μ-loop
-loop-again c = (omega arith, omega arith, run-tail (c .before .before .before .before .before .before .before .before .before .before .before .before .before .args .s .now) (c .before .before .before .before .before .loop .i) (c .before .before .before .before .before .loop .low) (c .before .before .before .before .before .loop .high) (c .before .before .before .before .before .loop .left) (omega arith) (omega arith) (omega arith) (omega arith) ∙ c .before .before .before .before .before .loop .inv .2)
+loop-again c =
+    let turn = c .before .before .before .before .before .loop in
+    let s = c .before .before .before .before .before .before .before .before .before .before .before .before .before .args .s .now in (
+      omega arith,
+      omega arith,
+      run-tail s (turn .i) (turn .low) (turn .high) (turn .left) (omega arith) (omega arith) (omega arith) (omega arith) ∙ turn .inv .2,
+    )
 
 returns-6 : tie.Need-returns-6 Inv-loop μ-loop
-returns-6 c = let none : c .before .loop .left ≡ 0 = omega arith in
-    (c .before .loop .inv .0, c .before .loop .inv .1, ap (λ (n : ℕ). run (awaits n (c .before .loop .low) (c .before .loop .high)) (drop (c .before .loop .i) (c .before .before .before .before .before .before .before .before .before .args .s .now))) (sym none) ∙ c .before .loop .inv .2)
+returns-6 c =
+    let turn = c .before .loop in
+    let s = c .before .before .before .before .before .before .before .before .before .args .s .now in
+    let none : turn .left ≡ 0 = omega arith in (
+      turn .inv .0,
+      turn .inv .1,
+      ap (λ (n : ℕ). run (awaits n (turn .low) (turn .high)) (drop (turn .i) s)) (sym none) ∙ turn .inv .2,
+    )
 
 pub sequence-at-spec : {M : Type 1} → statement M
 sequence-at-spec =

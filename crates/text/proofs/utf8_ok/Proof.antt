@@ -27,23 +27,35 @@ enum-known-sequence : tie.Need-enum-known-sequence Inv-loop μ-loop
 enum-known-sequence c = search needs
 
 loop-less : tie.Need-loop-less Inv-loop μ-loop
-loop-less c = let ends = subst (SequenceEnd (c .before .before .before .before .before .before .before .args .s .now) (c .before .before .before .before .before .loop .i)) (c .before .sequence .given .1) (c .before .before .before .sequence-at .ensures) in
+loop-less c =
+    let s = c .before .before .before .before .before .before .before .args .s .now in
+    let ends = subst (SequenceEnd s (c .before .before .before .before .before .loop .i)) (c .before .sequence .given .1) (c .before .before .before .sequence-at .ensures) in
     omega arith
 
 loop-again : tie.Need-loop-again Inv-loop μ-loop
-loop-again c = let ends = subst (SequenceEnd (c .before .before .before .before .before .before .before .args .s .now) (c .before .before .before .before .before .loop .i)) (c .before .sequence .given .1) (c .before .before .before .sequence-at .ensures) in
-    (ends .1, ends .2 ∙ c .before .before .before .before .before .loop .inv .1)
+loop-again c =
+    let s = c .before .before .before .before .before .before .before .args .s .now in
+    let turn = c .before .before .before .before .before .loop in
+    let ends = subst (SequenceEnd s (turn .i)) (c .before .sequence .given .1) (c .before .before .before .sequence-at .ensures) in
+    (ends .1, ends .2 ∙ turn .inv .1)
 
 enum-told : tie.Need-enum-told Inv-loop μ-loop
 enum-told c = search needs
 
 returns : tie.Need-returns Inv-loop μ-loop
 unfolding wellFormed
-returns c = sym (ap whole (sym (c .before .before .before .before .loop .inv .1)) ∙ subst (SequenceEnd (c .before .before .before .before .before .before .args .s .now) (c .before .before .before .before .loop .i)) (c .enum-told .given .1) (c .before .before .sequence-at .ensures))
+returns c =
+    let s = c .before .before .before .before .before .before .args .s .now in
+    let turn = c .before .before .before .before .loop in
+    let none = subst (SequenceEnd s (turn .i)) (c .enum-told .given .1) (c .before .before .sequence-at .ensures) in
+    sym (ap whole (sym (turn .inv .1)) ∙ none)
 
 returns-2 : tie.Need-returns-2 Inv-loop μ-loop
 unfolding wellFormed
-returns-2 c = ap whole (sym (run-end (Left.columns []) (c .before .before .before .args .s .now) (c .before .loop .i) (omega arith)) ∙ c .before .loop .inv .1)
+returns-2 c =
+    let s = c .before .before .before .args .s .now in
+    let turn = c .before .loop in
+    ap whole (sym (run-end (Left.columns []) s (turn .i) (omega arith)) ∙ turn .inv .1)
 
 pub utf8-ok-spec : {M : Type 1} → statement M
 utf8-ok-spec =

@@ -1,6 +1,9 @@
 -- `clear`: what `clear_from` says of place 0.
-use native.Mathlib.Nat.{sub-zero}
 use borrow.Author.Needs.{needs}
+use mathlib.Core.Path.{ap, _∙_}
+use Prim.Native.Nat.{ℕ}
+use native.Mathlib.Nat.{sub-zero}
+use lib.ListN.{length, replicate}
 use Rattle.words.proofs.clear.Statement.{statement}
 use Rattle.words.proofs.clear.Tie as tie
 
@@ -11,7 +14,7 @@ same-length : tie.Need-same-length
 same-length c = search needs
 
 returns : tie.Need-returns
-returns c = rw sub-zero at (c .before .before .clear-from .ensures)
+returns c = c .before .before .clear-from .ensures ∙ ap (λ (k : ℕ). replicate k 0) (sub-zero (length (c .before .before .before .before .before .args .words .now)))
 
 pub clear-spec : {M : Type 1} → statement M
 clear-spec = tie.close (tie.spec clear-from-requires same-length returns)

@@ -1,7 +1,7 @@
 -- `clear_from`: after each turn the words are the old ones with a run of zeros written over them from `at` on; at the end that run reaches the end.
 use borrow.Author.Needs.{needs}
 use mathlib.Core.Path.{_≡_, refl, sym, ap, _∙_}
-use Prim.Native.Nat.{ℕ, _+_, _-_, _≤_}
+use Prim.Native.Nat.{ℕ, _-_, _≤_}
 use native.Mathlib.Omega.{arith}
 use lib.ListN.{length, replicate, length-set, length-replicate}
 use Rattle.words.specs.Splice.{splice, splice-nil}

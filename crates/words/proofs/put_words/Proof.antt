@@ -1,9 +1,9 @@
 -- `put_words`: after each turn the first i words are written; at the end i is the run's length or the table's room, and the rest has no room.
 use borrow.Author.Needs.{needs}
-use mathlib.Core.Path.{_≡_, refl, sym, ap, _∙_}
-use Prim.Native.Nat.{ℕ, _+_, _-_, _≤_, min}
+use mathlib.Core.Path.{_≡_, refl, sym, _∙_}
+use Prim.Native.Nat.{_-_, _≤_}
 use native.Mathlib.Omega.{arith}
-use lib.ListN.{length, getD, take, length-set}
+use lib.ListN.{length, take, length-set}
 use Rattle.words.specs.Splice.{splice, splice-nil}
 use Rattle.words.proofs.Splice.{splice-past-end, splice-enough, splice-take-more}
 use Rattle.words.proofs.put_words.Statement.{statement}

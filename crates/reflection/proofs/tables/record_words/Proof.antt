@@ -11,8 +11,8 @@ use borrow.Author.Needs.{needs}
 use Rattle.reflection.proofs.tables.record_words.Statement.{statement}
 use Rattle.reflection.proofs.tables.record_words.Tie as tie
 
-div-if1 : tie.Need-div-if1
-div-if1 c = search needs
+div-held : tie.Need-div-held
+div-held c = search needs
 
 mul-at : tie.Need-mul-at
 mul-at c = let a = c .before .before .args in omega (arith, record-inside (a .width) (length (a .table .now)) (a .i) (c .if1 .taken))
@@ -55,7 +55,7 @@ pub record-words-spec : {M : Type 1} → statement M
 record-words-spec =
     tie.close
     (tie.spec
-    div-if1
+    div-held
     mul-at
     add-end
     slice-aggregate-put-words

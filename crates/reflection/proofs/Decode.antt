@@ -1,0 +1,155 @@
+-- Decoding undoes encoding: the tables of a reflection hold its records, the nodes build its types again, and the buffers take back their variables.
+-- What a root's node says of a member does not count (the nodes may be rooted anyhow).
+use mathlib.Core.Path.{_≡_, refl, sym, ap, _∙_}
+use mathlib.Core.List.{List, [], _∷_, _++_, map}
+use mathlib.Core.Option.{some}
+use Prim.Native.Nat.{ℕ, suc, _+_, _/_, _<_}
+use native.Mathlib.Nat.{zero-add, add-zero}
+use native.Mathlib.Omega.{arith}
+use borrow.Author.Tests.{le-leb}
+use lib.ListN.{length, getD, length-append, length-map}
+use lib.Seq.{take-append-seam, drop-append-seam}
+use Rattle.reflection.specs.declared.Text.{Text}
+use Rattle.reflection.specs.declared.ResourceBinding.{ResourceBinding as BindingRecord}
+use Rattle.reflection.specs.declared.CBufferDef.{CBufferDef as BufferRecord}
+use Rattle.reflection.specs.declared.CBufferVariable.{CBufferVariable as VariableRecord}
+use Rattle.reflection.specs.declared.TypeDesc.{TypeDesc as TypeRecord}
+use Rattle.reflection.specs.Reflection.{TypeDesc, typeDesc, CBufferVariable, CBufferDef, ResourceBinding, ResourceDef}
+use Rattle.reflection.specs.Texts.{inChunk}
+use Rattle.reflection.specs.Nodes.{Node, nodesOf, typeLevels}
+use Rattle.reflection.specs.Records.{recordWord, joined}
+use Rattle.reflection.specs.Records.{bindingWidth, bindingWords, bindingOf, bindingAt}
+use Rattle.reflection.specs.Records.{bufferWidth, bufferWords, bufferOf, bufferAt}
+use Rattle.reflection.specs.Records.{variableWidth, variableWords, variableOf, variableAt}
+use Rattle.reflection.specs.Records.{typeWidth, typeWords, typeOf, typeAt}
+use Rattle.reflection.specs.Tables.{padded, bindingRecord, bufferRecord, variableRecord, typeRecord, allVariables, allNodes}
+use Rattle.reflection.specs.Tables.{bindingRows, bufferRows, variableRows, typeRows, headerOf}
+use Rattle.reflection.specs.Decode.{check, recordsFrom, firstRecords, bindingFrom, variableFrom, bufferFrom, nodeFrom, variablesFrom, buffersFrom, rd11From, TypesFit, decode}
+use Rattle.reflection.proofs.Rows.{within}
+use Rattle.reflection.proofs.Joined.{holds-joined, words-joined}
+use Rattle.reflection.proofs.Nodes.{then-some, type-from}
+
+-- Records that are the elements of a list, one by one, are the list.
+records-all : {A : Type 0} (record-at : ℕ → A) (xs : List A) (d : A) (i : ℕ) → ((k : ℕ) → k < length xs → record-at (i + k) ≡ getD xs k d)
+    → recordsFrom record-at i (length xs) ≡ xs
+unfolding recordsFrom
+records-all record-at [] d i e = refl
+records-all record-at (x ∷ xs) d i e =
+    ap (λ y. y ∷ recordsFrom record-at (suc i) (length xs)) (ap record-at (sym (add-zero i)) ∙ e 0 (omega arith))
+    ∙ ap (λ ys. x ∷ ys)
+    (records-all record-at xs d (suc i)
+    (λ k h. let next : suc i + k ≡ i + suc k = omega arith in ap record-at next ∙ e (suc k) (omega arith)))
+
+module _
+    {A : Type 0}
+    (width : ℕ)
+    (wide : 0 < width)
+    (words : A → List ℕ)
+    (whole : (x : A) → length (words x) ≡ width)
+    (record-at : List ℕ → ℕ → A)
+    (reads : (t : List ℕ) (i : ℕ) (x : A) → within width (recordWord width t i) ≡ within width (λ k. getD (words x) k 0) → record-at t i ≡ x) where
+  -- The first records of a table of joined records are these.
+  first-joined : (n m : ℕ) (xs : List A) → m ≡ length xs → firstRecords width record-at (padded n (joined words xs)) m ≡ some xs
+  unfolding firstRecords check
+  first-joined n m xs e =
+      then-some _ (ap check (le-leb m (length (padded n (joined words xs)) / width) (omega (arith, holds-joined width words whole n xs wide))))
+      (ap some
+      (ap (recordsFrom (record-at (padded n (joined words xs))) 0) e
+      ∙ records-all (record-at (padded n (joined words xs))) xs (record-at [] 0) 0
+      (λ k h. ap (record-at (padded n (joined words xs))) (zero-add k) ∙ reads _ _ _ (words-joined width words whole n xs (record-at [] 0) k h))))
+
+first-bindings : (n m : ℕ) (xs : List BindingRecord) → m ≡ length xs → firstRecords bindingWidth bindingAt (padded n (joined bindingWords xs)) m ≡ some xs
+unfolding bindingAt bindingWords
+first-bindings = first-joined bindingWidth (omega arith) bindingWords (λ x. refl) bindingAt (λ t i x e. ap bindingOf e)
+
+first-buffers : (n m : ℕ) (xs : List BufferRecord) → m ≡ length xs → firstRecords bufferWidth bufferAt (padded n (joined bufferWords xs)) m ≡ some xs
+unfolding bufferAt bufferWords
+first-buffers = first-joined bufferWidth (omega arith) bufferWords (λ x. refl) bufferAt (λ t i x e. ap bufferOf e)
+
+first-variables : (n m : ℕ) (xs : List VariableRecord) → m ≡ length xs → firstRecords variableWidth variableAt (padded n (joined variableWords xs)) m ≡ some xs
+unfolding variableAt variableWords
+first-variables = first-joined variableWidth (omega arith) variableWords (λ x. refl) variableAt (λ t i x e. ap variableOf e)
+
+first-types : (n m : ℕ) (xs : List TypeRecord) → m ≡ length xs → firstRecords typeWidth typeAt (padded n (joined typeWords xs)) m ≡ some xs
+unfolding typeAt typeWords
+first-types = first-joined typeWidth (omega arith) typeWords (λ x. refl) typeAt (λ t i x e. ap typeOf e)
+
+-- What a record was made from comes back.
+map-back : {A B : Type 0} (f : A → B) (g : B → A) → ((x : A) → g (f x) ≡ x) → (xs : List A) → map g (map f xs) ≡ xs
+map-back f g e [] = refl
+map-back f g e (x ∷ xs) = ap (λ y. y ∷ map g (map f xs)) (e x) ∙ ap (λ ys. x ∷ ys) (map-back f g e xs)
+
+bindings-back : (xs : List (ResourceBinding Text)) → map bindingFrom (map bindingRecord xs) ≡ xs
+unfolding bindingFrom bindingRecord
+bindings-back = map-back bindingRecord bindingFrom (λ x. refl)
+
+nodes-back : (xs : List (Node Text)) → map nodeFrom (map typeRecord xs) ≡ xs
+unfolding nodeFrom typeRecord
+nodes-back = map-back typeRecord nodeFrom (λ x. refl)
+
+-- The nodes of the variables' types, whatever name and offset each root has as a member.
+unfoldable pub rootedNodes : (CBufferVariable Text Text → Text × ℕ) → List (CBufferVariable Text Text) → List (Node Text)
+rootedNodes root [] = []
+rootedNodes root (x ∷ xs) = nodesOf (root x .0) (root x .1) (x .var-type) ++ rootedNodes root xs
+
+-- The encoding's roots have none.
+plain-roots : (xs : List (CBufferVariable Text Text)) → rootedNodes (λ x. (inChunk 0 0, 0)) xs ≡ allNodes xs
+unfolding rootedNodes allNodes
+plain-roots [] = refl
+plain-roots (x ∷ xs) = ap (λ ns. nodesOf (inChunk 0 0) 0 (x .var-type) ++ ns) (plain-roots xs)
+
+length-root : {N : Type 0} (n m : N) (a b : ℕ) (t : TypeDesc N) → length (nodesOf n a t) ≡ length (nodesOf m b t)
+unfolding nodesOf
+length-root n m a b (typeDesc k name ms) = refl
+
+length-rooted : (root : CBufferVariable Text Text → Text × ℕ) (xs : List (CBufferVariable Text Text)) → length (allNodes xs) ≡ length (rootedNodes root xs)
+unfolding rootedNodes allNodes
+length-rooted root [] = refl
+length-rooted root (x ∷ xs) =
+    let t = x .var-type in
+    omega (
+      arith,
+      length-append (nodesOf (inChunk 0 0) 0 t) (allNodes xs),
+      length-append (nodesOf (root x .0) (root x .1) t) (rootedNodes root xs),
+      length-root (inChunk 0 0) (root x .0) 0 (root x .1) t,
+      length-rooted root xs,
+    )
+
+variables-back : (root : CBufferVariable Text Text → Text × ℕ) (vs : List (CBufferVariable Text Text)) → TypesFit vs
+    → variablesFrom (map variableRecord vs) (rootedNodes root vs) ≡ some vs
+unfolding variablesFrom variableFrom variableRecord rootedNodes TypesFit
+variables-back root [] fits = refl
+variables-back root (v ∷ vs) fits =
+    then-some _ (type-from (v .var-type) typeLevels (root v .0) (root v .1) (rootedNodes root vs) (fits .0))
+    (then-some _ (variables-back root vs (fits .1)) refl)
+
+buffers-back : (bs : List (CBufferDef Text Text)) → buffersFrom (map bufferRecord bs) (allVariables bs) ≡ some bs
+unfolding buffersFrom bufferFrom bufferRecord allVariables check
+buffers-back [] = refl
+buffers-back (b ∷ bs) =
+    let own = b .variables in
+    let others = allVariables bs in
+    then-some _ (ap check (le-leb (length own) (length (own ++ others)) (omega (arith, length-append own others))))
+    (then-some _ (ap (buffersFrom (map bufferRecord bs)) (drop-append-seam own others) ∙ buffers-back bs)
+    (ap (λ vs. some (bufferFrom (bufferRecord b) vs ∷ bs)) (take-append-seam own others)))
+
+module _ (r : ResourceDef Text Text) (nb nf nv nt : ℕ) (fits : TypesFit (allVariables (r .constant-buffers))) (words : r .rd11 ≡ rd11From (headerOf r)) where
+  -- Decoding undoes encoding, whatever the roots' nodes say of a member.
+  pub decode-rooted : (root : CBufferVariable Text Text → Text × ℕ)
+      → decode (headerOf r) (padded nb (bindingRows r)) (padded nf (bufferRows r)) (padded nv (variableRows r))
+      (padded nt (joined typeWords (map typeRecord (rootedNodes root (allVariables (r .constant-buffers))))))
+      ≡ some r
+  unfolding decode headerOf bindingRows bufferRows variableRows
+  decode-rooted root =
+      let vs = allVariables (r .constant-buffers) in
+      let ns = rootedNodes root vs in
+      then-some _ (first-bindings nb _ (map bindingRecord (r .bindings)) (sym (length-map (r .bindings) bindingRecord)))
+      (then-some _ (first-buffers nf _ (map bufferRecord (r .constant-buffers)) (sym (length-map (r .constant-buffers) bufferRecord)))
+      (then-some _ (first-variables nv _ (map variableRecord vs) (sym (length-map vs variableRecord)))
+      (then-some _ (first-types nt _ (map typeRecord ns) (length-rooted root vs ∙ sym (length-map ns typeRecord)))
+      (then-some _ (ap (variablesFrom (map variableRecord vs)) (nodes-back ns) ∙ variables-back root vs fits)
+      (then-some _ (buffers-back (r .constant-buffers)) (rw (bindings-back (r .bindings), ← words)))))))
+
+  pub decode-encoded : decode (headerOf r) (padded nb (bindingRows r)) (padded nf (bufferRows r)) (padded nv (variableRows r)) (padded nt (typeRows r)) ≡ some r
+  unfolding typeRows
+  decode-encoded = rw (← plain-roots) (decode-rooted (λ x. (inChunk 0 0, 0)))

@@ -1,0 +1,8 @@
+-- What the proofs of several functions use.
+mod Members
+mod Types
+mod Path
+mod Names
+mod Table
+mod MembersWalk
+mod TypeWalk

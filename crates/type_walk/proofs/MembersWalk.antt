@@ -1,0 +1,106 @@
+-- The loop over the members, with the tables: what is left to read decides the outcome, so each turn leaves the outcome of the whole as it was.
+use mathlib.Core.Path.{_≡_, refl, sym, ap, subst, _∙_}
+use mathlib.Core.Bool.{Bool, true, false}
+use mathlib.Core.List.{List}
+use Prim.Native.Nat.{ℕ, _+_, _*_, _-_, _≤_, _<_}
+use native.Mathlib.Omega.{arith}
+use lib.ListN.{length, take}
+use Rattle.words.specs.Words.{wordAt}
+use Rattle.words.specs.Parts.{inside}
+use Rattle.text.specs.declared.Found.the-variants.{At, Bad}
+use Rattle.text.specs.Strings.{cstringAt}
+use Rattle.reflection.specs.declared.Refusal.{Refusal}
+use Rattle.reflection.specs.declared.Text.{Text}
+use Rattle.reflection.specs.Outcome.{because}
+use Rattle.reflection.specs.Texts.{inChunk}
+use Rattle.reading.specs.Step.{Room, room}
+use Rattle.type_walk.specs.declared.Walk.{Walk}
+use Rattle.type_walk.specs.declared.Walk.the-variants.{Next, Refused}
+use Rattle.type_walk.specs.Progress.{Progress, onward, Grew}
+use Rattle.type_walk.specs.Walk.{turned, typeProgress, membersProgress, answered, Walked}
+use Rattle.type_walk.proofs.Members.{members-none, members-short, members-bad, members-on}
+
+-- The loop's invariant: from the table and the path at entry (types₀, path₀) the walk came to these, with node `next` free and `left` members left,
+-- the next of them at `at`.
+pub record Going (s : List ℕ) (sm5 : Bool) (first count levels capacity n : ℕ) (types₀ path₀ types path : List ℕ) (next at left : ℕ) : Type 0 where
+  pub same : (b f v : ℕ) → membersProgress s sm5 levels (turned (take (65 - levels) path₀)) count first (take (n * 17) types₀) (room b f v (capacity - n))
+      ≡ membersProgress s sm5 levels (turned (take (65 - levels) path₀)) left at (take (next * 17) types) (room b f v (capacity - next))
+  pub above : take (65 - levels) path ≡ take (65 - levels) path₀
+  pub low : n ≤ next
+  pub high : next ≤ capacity
+  pub types-long : length types ≡ length types₀
+  pub path-long : length path ≡ length path₀
+
+module _ {s : List ℕ} {sm5 : Bool} {first count levels capacity n : ℕ} {types₀ path₀ types path : List ℕ} {next at left : ℕ}
+    (g : Going s sm5 first count levels capacity n types₀ path₀ types path next at left) where
+  abbrev path-in : List ℕ
+  path-in = turned (take (65 - levels) path₀)
+
+  abbrev sofar : List ℕ
+  sofar = take (next * 17) types
+
+  abbrev whole : Room → Progress (List ℕ)
+  whole = membersProgress s sm5 levels path-in count first (take (n * 17) types₀)
+
+  pub ends : left ≤ 0 → Walked whole levels capacity n types₀ types path₀ path (Next next)
+  ends none = record {
+    outcome = λ b f v. g .same b f v ∙ members-none s sm5 levels path-in at sofar (room b f v (capacity - next)) left none;
+    grew = record { low = g .low; high = g .high };
+    above = g .above;
+  }
+
+  module _ (more : 0 < left) where
+    pub ends-short : inside (length s) at 12 ≡ false → Walked whole levels capacity n types₀ types path₀ path (Refused (because 7))
+    ends-short short = record {
+      outcome = λ b f v. g .same b f v ∙ members-short s sm5 levels path-in at sofar (room b f v (capacity - next)) left more short;
+      grew = tt;
+      above = g .above;
+    }
+
+    module _ (fits : inside (length s) at 12 ≡ true) where
+      pub ends-bad : cstringAt s (wordAt s at) ≡ Bad → Walked whole levels capacity n types₀ types path₀ path (Refused (because 11))
+      ends-bad bad = record {
+        outcome = λ b f v. g .same b f v ∙ members-bad s sm5 levels path-in at sofar (room b f v (capacity - next)) left more fits bad;
+        grew = tt;
+        above = g .above;
+      }
+
+      -- The member's name has k bytes at `place`, its type lies at `below`, and its offset is `offset`.
+      module _ (place k below offset : ℕ) (named : cstringAt s (wordAt s at) ≡ At place k)
+          (is-below : below ≡ wordAt s (at + 4)) (is-offset : offset ≡ wordAt s (at + 8)) (types′ path′ : List ℕ) where
+        abbrev name : Text
+        name = inChunk place k
+
+        abbrev walked-below : Walk → Type 0
+        walked-below r =
+            Walked (typeProgress s sm5 levels (turned (take (65 - levels) path)) below name offset sofar) levels capacity next types types′ path path′ r
+
+        after : (r : Walk) → walked-below r → (b f v : ℕ)
+            → whole (room b f v (capacity - n)) ≡ onward (membersProgress s sm5 levels path-in (left - 1) (at + 12)) (answered capacity r types′ (room b f v))
+        after r w b f v =
+            let then : Progress (List ℕ) → Progress (List ℕ) = onward (membersProgress s sm5 levels path-in (left - 1) (at + 12)) in
+            let r₀ : Room = room b f v (capacity - next) in
+            g .same b f v
+            ∙ members-on s sm5 levels path-in at sofar r₀ left place k more fits named
+            ∙ ap (λ (x : ℕ). then (typeProgress s sm5 levels path-in x name (wordAt s (at + 8)) sofar r₀)) (sym is-below)
+            ∙ ap (λ (x : ℕ). then (typeProgress s sm5 levels path-in below name x sofar r₀)) (sym is-offset)
+            ∙ ap (λ (p : List ℕ). then (typeProgress s sm5 levels (turned p) below name offset sofar r₀)) (sym (g .above))
+            ∙ ap then (w .outcome b f v)
+
+        pub ends-below : (r : Walk) (e : Refusal) → r ≡ Refused e → walked-below r → Walked whole levels capacity n types₀ types′ path₀ path′ (Refused e)
+        ends-below r e is-refused walked =
+            let w : walked-below (Refused e) = subst walked-below is-refused walked in
+            record { outcome = after (Refused e) w; grew = tt; above = w .above ∙ g .above }
+
+        pub goes-on : (r : Walk) (m : ℕ) → r ≡ Next m → walked-below r → length types′ ≡ length types → length path′ ≡ length path
+            → Going s sm5 first count levels capacity n types₀ path₀ types′ path′ m (at + 12) (left - 1)
+        goes-on r m is-next walked types-same path-same =
+            let w : walked-below (Next m) = subst walked-below is-next walked in
+            record {
+              same = after (Next m) w;
+              above = w .above ∙ g .above;
+              low = omega (arith, g .low, w .grew .low);
+              high = w .grew .high;
+              types-long = types-same ∙ g .types-long;
+              path-long = path-same ∙ g .path-long;
+            }

@@ -1,0 +1,55 @@
+-- The path that led to a type: the code keeps it root first and looks through it from the root, the definition has the nearest descriptor first.
+-- Which way round makes no difference to what is on it.
+use mathlib.Core.Path.{_≡_, refl, sym, ap, _∙_}
+use mathlib.Core.Bool.{Bool, true, false, _||_}
+use mathlib.Core.List.{List, [], _∷_, _++_}
+use Prim.Native.Nat.{ℕ, suc, _+_, _≤_, _<_}
+use native.Mathlib.Numerals.{add-one}
+use borrow.Author.Tests.{eq-eqb, ne-eqb}
+use lib.Dec.{eqb}
+use lib.ListN.{length, getD, take, drop, drop-of-length-le}
+use lib.Seq.{drop-cons, take-take}
+use Rattle.reading.specs.Read.{onPath}
+use Rattle.type_walk.specs.Walk.{turnedOnto}
+
+-- Looking through a path, from its place i on.
+module _ (path : List ℕ) (at i : ℕ) where
+  pub path-end : length path ≤ i → onPath at (drop i path) ≡ false
+  unfolding onPath
+  path-end h = rw (drop-of-length-le path h)
+
+  pub path-here : i < length path → getD path i 0 ≡ at → onPath at (drop i path) ≡ true
+  unfolding onPath
+  path-here h e = rw (drop-cons path i 0 h, onPath, eq-eqb at (getD path i 0) (sym e))
+
+  pub path-more : i < length path → (getD path i 0 ≡ at → ⊥) → onPath at (drop i path) ≡ onPath at (drop (i + 1) path)
+  unfolding onPath
+  path-more h d = rw (drop-cons path i 0 h, onPath, ne-eqb at (getD path i 0) (λ e. d (sym e)), add-one i)
+
+or-turn : (a b c : Bool) → (b || (a || c)) ≡ ((a || b) || c)
+or-turn true true c = refl
+or-turn true false c = refl
+or-turn false true c = refl
+or-turn false false c = refl
+
+on-turned-onto : (at : ℕ) (path onto : List ℕ) → onPath at (turnedOnto path onto) ≡ (onPath at path || onPath at onto)
+unfolding onPath turnedOnto
+on-turned-onto at [] onto = refl
+on-turned-onto at (x ∷ xs) onto = on-turned-onto at xs (x ∷ onto) ∙ or-turn (eqb at x) (onPath at xs) (onPath at onto)
+
+or-false : (a : Bool) → (a || false) ≡ a
+or-false true = refl
+or-false false = refl
+
+pub on-turned : (at : ℕ) (path : List ℕ) → onPath at (turnedOnto path []) ≡ onPath at path
+unfolding onPath
+on-turned at path = on-turned-onto at path [] ∙ or-false (onPath at path)
+
+pub turned-longer : (path onto : List ℕ) (at : ℕ) → turnedOnto (path ++ (at ∷ [])) onto ≡ at ∷ turnedOnto path onto
+unfolding turnedOnto
+turned-longer [] onto at = refl
+turned-longer (x ∷ xs) onto at = turned-longer xs (x ∷ onto) at
+
+-- Lists that agree up to b agree up to a, where a ≤ b.
+pub take-less : (a b : ℕ) (x y : List ℕ) → a ≤ b → take b x ≡ take b y → take a x ≡ take a y
+take-less a b x y h e = sym (take-take a b x h) ∙ ap (take a) e ∙ take-take a b y h

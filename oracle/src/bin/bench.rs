@@ -1,0 +1,165 @@
+//! Times the port's reading beside rdef.rs, on the same chunks in one run.
+
+use oracle::generate::fixed::plain;
+use oracle::generate::plan::{Binding, Buffer, Member, Plan, Type, Value, Variable};
+use oracle::generate::rng::Rng;
+use oracle::generate::texts::identifier;
+use oracle::port::port;
+use oracle::rdef::{parse_only, parse_rdef};
+use oracle::tables::{Answer, LIMITS, WIDTHS};
+use oracle::words;
+use std::hint::black_box;
+use std::time::Instant;
+
+const ROUNDS: usize = 15;
+
+fn main() {
+    println!("Nanoseconds per call, median of {ROUNDS} rounds:");
+    println!("  (a) rdef.rs: parse_rdef, which writes the canonical form inside itself");
+    println!("  (b) rdef.rs: its parsing alone, without that writing");
+    println!("  (c) the port with tables of full size    (d) the port with tables of just the needed size");
+    println!("Making and freeing the vectors is in (a) and (b); clearing the tables is in (c) and (d), always.");
+    println!();
+    println!(
+        "{:<22}{:>7}{:>12}{:>12}{:>12}{:>12}{:>9}{:>9}{:>9}{:>9}",
+        "chunk", "bytes", "(a)", "(b)", "(c)", "(d)", "a/c", "a/d", "b/c", "b/d"
+    );
+    for major in [4, 5] {
+        line(&format!("typical, major {major}"), &chunk(&TYPICAL, major));
+        line(&format!("near-limit, major {major}"), &chunk(&NEAR_LIMIT, major));
+    }
+}
+
+fn line(name: &str, chunk: &[u8]) {
+    let answer = words::read(chunk).expect("rdef.rs reads the chunk");
+    let mut full: [Vec<u32>; 4] = std::array::from_fn(|table| vec![1; LIMITS[table] * WIDTHS[table]]);
+    let mut needed: [Vec<u32>; 4] = answer.tables().map(|words| vec![1; words.len()]);
+    same(chunk, &answer, &mut full);
+    same(chunk, &answer, &mut needed);
+
+    let mut times: [Vec<f64>; 4] = Default::default();
+    for _ in 0..ROUNDS {
+        times[0].push(time(|| drop(black_box(parse_rdef(black_box(chunk))))));
+        times[1].push(time(|| drop(black_box(parse_only(black_box(chunk))))));
+        times[2].push(time(|| call(chunk, &mut full)));
+        times[3].push(time(|| call(chunk, &mut needed)));
+    }
+    let [a, b, c, d] = times.map(median);
+    println!(
+        "{name:<22}{:>7}{a:>12.0}{b:>12.0}{c:>12.0}{d:>12.0}{:>9.2}{:>9.2}{:>9.2}{:>9.2}",
+        chunk.len(),
+        a / c,
+        a / d,
+        b / c,
+        b / d
+    );
+    let [bindings, buffers, variables, types] = [8, 9, 10, 11].map(|index| answer.header[index]);
+    println!("    {bindings} bindings, {buffers} buffers, {variables} variables, {types} type nodes");
+}
+
+fn call(chunk: &[u8], tables: &mut [Vec<u32>; 4]) {
+    let mut header = [0; 12];
+    let number = port(black_box(chunk), &mut header, tables.each_mut().map(|table| &mut table[..]));
+    black_box((number, header));
+}
+
+/// What is timed must be right.
+fn same(chunk: &[u8], answer: &Answer, tables: &mut [Vec<u32>; 4]) {
+    let mut header = [1; 12];
+    let number = port(chunk, &mut header, tables.each_mut().map(|table| &mut table[..]));
+    assert_eq!((number, header), (0, answer.header));
+    for (table, words) in tables.iter().zip(answer.tables()) {
+        assert_eq!(table[..words.len()], *words);
+        assert!(table[words.len()..].iter().all(|&word| word == 0));
+    }
+}
+
+/// Nanoseconds of one call, over as many as fill some milliseconds.
+fn time(mut call: impl FnMut()) -> f64 {
+    let mut calls = 1u32;
+    loop {
+        let start = Instant::now();
+        for _ in 0..calls {
+            call();
+        }
+        let spent = start.elapsed();
+        if spent.as_millis() >= 10 {
+            return spent.as_nanos() as f64 / f64::from(calls);
+        }
+        calls *= 2;
+    }
+}
+
+fn median(mut times: Vec<f64>) -> f64 {
+    times.sort_by(f64::total_cmp);
+    times[times.len() / 2]
+}
+
+/// What a chunk for timing holds. Each buffer has as many variables as an array.
+struct Size {
+    bindings: usize,
+    buffers: usize,
+    arrays: usize,
+    array: usize,
+    /// One variable in so many is a struct, and so many members it has.
+    one_in: usize,
+    members: usize,
+}
+
+const TYPICAL: Size = Size { bindings: 60, buffers: 8, arrays: 8, array: 15, one_in: 6, members: 4 };
+
+/// Inside 65,536 bytes only since buffers share arrays of variables.
+const NEAR_LIMIT: Size = Size { bindings: 1_000, buffers: 50, arrays: 5, array: 40, one_in: 2, members: 2 };
+
+fn chunk(size: &Size, major: u32) -> Vec<u8> {
+    let mut rng = Rng::new(9, u64::from(major));
+    let mut plan = Plan::empty(major);
+    plan.creator = b"Microsoft (R) HLSL Shader Compiler 10.1".to_vec();
+    for index in 0..size.bindings {
+        let words = [2 + index as u32 % 3, 5, 4, 0xffff_ffff, index as u32, 1, 0xc, 0, 0];
+        plan.bindings.push(Binding { name: identifier(&mut rng, 6, 20), words });
+    }
+    for index in 0..12u16 {
+        let halves = [index % 4, [3, 3, 2, 19][usize::from(index % 4)], 1 + index % 4, 4, index % 3];
+        plan.types.push(Type { halves, ..Type::default() });
+    }
+    for _ in 0..8 {
+        let member = |rng: &mut Rng| Member { name: identifier(rng, 6, 20), of: rng.below(12), offset: 16 };
+        let members = (0..size.members).map(|_| member(&mut rng)).collect();
+        plan.types.push(Type {
+            halves: [5, 0, 1, 1, 0],
+            members,
+            name: Some(identifier(&mut rng, 6, 20)),
+            ..Type::default()
+        });
+    }
+    let mut number = 0;
+    for _ in 0..size.arrays {
+        let mut array = Vec::new();
+        for _ in 0..size.array {
+            let of = if number % size.one_in == 0 { 12 + rng.below(8) } else { rng.below(12) };
+            let value = if number % 7 == 1 { Value::Bytes((0..16).map(|_| rng.byte()).collect()) } else { Value::None };
+            array.push(Variable {
+                name: identifier(&mut rng, 6, 20),
+                offset: 16 * number as u32,
+                size: 16,
+                flags: 2,
+                of,
+                value,
+                slots: [0; 4],
+            });
+            number += 1;
+        }
+        plan.arrays.push(array);
+    }
+    for index in 0..size.buffers {
+        plan.buffers.push(Buffer {
+            name: identifier(&mut rng, 6, 20),
+            array: index % size.arrays,
+            count: size.array,
+            words: [16 * size.array as u32, 0, 0],
+            ..Buffer::default()
+        });
+    }
+    plain(&plan).bytes
+}

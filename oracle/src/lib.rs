@@ -1,0 +1,23 @@
+//! The reading of RDEF chunks, three times: the Rust that is ported (`rdef`, unchanged), a plain reader
+//! written from document 01 (`model`), and the port itself where its library is linked (`port`).
+//! `words` and `model` give the same words, so that all three can be compared word for word.
+
+// What rdef.rs expects of the crate around it.
+extern crate alloc;
+
+/// The trait of the module above rdef.rs, as far as rdef.rs uses it.
+pub trait ChunkWriter {
+    fn fourcc(&self) -> [u8; 4];
+    fn write_payload(&self) -> Vec<u8>;
+}
+
+// `pub mod rdef`, made by build.rs from rdef.rs and after_rdef.rs.
+include!(concat!(env!("OUT_DIR"), "/rdef_module.rs"));
+
+pub mod check;
+pub mod generate;
+pub mod model;
+pub mod port;
+pub mod tables;
+pub mod utf8;
+pub mod words;
