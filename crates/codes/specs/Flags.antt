@@ -1,8 +1,12 @@
--- Flag words, bit by bit (D3D_SHADER_INPUT_FLAGS for a binding, D3D_SHADER_VARIABLE_FLAGS for a variable).
+-- Flag words, bit by bit. A flag of Microsoft's is a mask of one bit, and the mask 2 ^ k is bit k.
 use mathlib.Core.Bool.{Bool}
 use Prim.Native.Nat.{ℕ, _/_, _%_, _^_}
 use lib.Dec.{eqb}
 
+-- Whether a word has the bit of a mask of one bit.
+abbrev pub flag : ℕ → ℕ → Bool
+flag mask w = eqb (w / mask % 2) 1
+
 -- Bit k of a word.
 abbrev pub bit : ℕ → ℕ → Bool
-bit k w = eqb (w / 2 ^ k % 2) 1
+bit k w = flag (2 ^ k) w

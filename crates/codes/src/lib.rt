@@ -1,26 +1,17 @@
-// The codes of an RDEF chunk: Microsoft's tables, and the two flag words.
-ghost use mathlib.Core.Path.{_≡_};
-ghost use lib.Dec.{leb};
-ghost use Rattle.codes.specs.Flags.{bit};
+// The codes of an RDEF chunk: Microsoft's enumerations as enums, and the two flag words, which the source keeps apart.
+mod binding_flags;
+mod dimension;
+mod input_type;
+mod variable;
+mod variable_flags;
 
-// The flags of a binding (D3D_SHADER_INPUT_FLAGS): 0x2 is a comparison sampler.
-pub struct BindingFlags(pub u32);
-
-// The flags of a variable (D3D_SHADER_VARIABLE_FLAGS): 0x2 is "used".
-pub struct VariableFlags(pub u32);
-
-impl BindingFlags {
-    pub fn comparison_sampler(self) -> bool
-        ensures { λ r. ⌜ r ≡ bit 1 (self .0) ⌝ }
-    {
-        self.0 / 2 % 2 == 1
-    }
-}
-
-impl VariableFlags {
-    pub fn used(self) -> bool
-        ensures { λ r. ⌜ r ≡ bit 1 (self .0) ⌝ }
-    {
-        self.0 / 2 % 2 == 1
-    }
-}
+pub use binding_flags::BindingFlags;
+pub use dimension::DimensionCode;
+pub use dimension::ResourceDimension;
+pub use input_type::InputTypeCode;
+pub use input_type::ResourceInputType;
+pub use variable::BaseType;
+pub use variable::BaseTypeCode;
+pub use variable::VariableClass;
+pub use variable::VariableClassCode;
+pub use variable_flags::VariableFlags;

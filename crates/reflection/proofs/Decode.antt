@@ -58,19 +58,19 @@ module _
       ∙ records-all (record-at (padded n (joined words xs))) xs (record-at [] 0) 0
       (λ k h. ap (record-at (padded n (joined words xs))) (zero-add k) ∙ reads _ _ _ (words-joined width words whole n xs (record-at [] 0) k h))))
 
-first-bindings : (n m : ℕ) (xs : List BindingRecord) → m ≡ length xs → firstRecords bindingWidth bindingAt (padded n (joined bindingWords xs)) m ≡ some xs
+pub first-bindings : (n m : ℕ) (xs : List BindingRecord) → m ≡ length xs → firstRecords bindingWidth bindingAt (padded n (joined bindingWords xs)) m ≡ some xs
 unfolding bindingAt bindingWords
 first-bindings = first-joined bindingWidth (omega arith) bindingWords (λ x. refl) bindingAt (λ t i x e. ap bindingOf e)
 
-first-buffers : (n m : ℕ) (xs : List BufferRecord) → m ≡ length xs → firstRecords bufferWidth bufferAt (padded n (joined bufferWords xs)) m ≡ some xs
+pub first-buffers : (n m : ℕ) (xs : List BufferRecord) → m ≡ length xs → firstRecords bufferWidth bufferAt (padded n (joined bufferWords xs)) m ≡ some xs
 unfolding bufferAt bufferWords
 first-buffers = first-joined bufferWidth (omega arith) bufferWords (λ x. refl) bufferAt (λ t i x e. ap bufferOf e)
 
-first-variables : (n m : ℕ) (xs : List VariableRecord) → m ≡ length xs → firstRecords variableWidth variableAt (padded n (joined variableWords xs)) m ≡ some xs
+pub first-variables : (n m : ℕ) (xs : List VariableRecord) → m ≡ length xs → firstRecords variableWidth variableAt (padded n (joined variableWords xs)) m ≡ some xs
 unfolding variableAt variableWords
 first-variables = first-joined variableWidth (omega arith) variableWords (λ x. refl) variableAt (λ t i x e. ap variableOf e)
 
-first-types : (n m : ℕ) (xs : List TypeRecord) → m ≡ length xs → firstRecords typeWidth typeAt (padded n (joined typeWords xs)) m ≡ some xs
+pub first-types : (n m : ℕ) (xs : List TypeRecord) → m ≡ length xs → firstRecords typeWidth typeAt (padded n (joined typeWords xs)) m ≡ some xs
 unfolding typeAt typeWords
 first-types = first-joined typeWidth (omega arith) typeWords (λ x. refl) typeAt (λ t i x e. ap typeOf e)
 
@@ -79,11 +79,11 @@ map-back : {A B : Type 0} (f : A → B) (g : B → A) → ((x : A) → g (f x) �
 map-back f g e [] = refl
 map-back f g e (x ∷ xs) = ap (λ y. y ∷ map g (map f xs)) (e x) ∙ ap (λ ys. x ∷ ys) (map-back f g e xs)
 
-bindings-back : (xs : List (ResourceBinding Text)) → map bindingFrom (map bindingRecord xs) ≡ xs
+pub bindings-back : (xs : List (ResourceBinding Text)) → map bindingFrom (map bindingRecord xs) ≡ xs
 unfolding bindingFrom bindingRecord
 bindings-back = map-back bindingRecord bindingFrom (λ x. refl)
 
-nodes-back : (xs : List (Node Text)) → map nodeFrom (map typeRecord xs) ≡ xs
+pub nodes-back : (xs : List (Node Text)) → map nodeFrom (map typeRecord xs) ≡ xs
 unfolding nodeFrom typeRecord
 nodes-back = map-back typeRecord nodeFrom (λ x. refl)
 
@@ -115,7 +115,7 @@ length-rooted root (x ∷ xs) =
       length-rooted root xs,
     )
 
-variables-back : (root : CBufferVariable Text Text → Text × ℕ) (vs : List (CBufferVariable Text Text)) → TypesFit vs
+pub variables-back : (root : CBufferVariable Text Text → Text × ℕ) (vs : List (CBufferVariable Text Text)) → TypesFit vs
     → variablesFrom (map variableRecord vs) (rootedNodes root vs) ≡ some vs
 unfolding variablesFrom variableFrom variableRecord rootedNodes TypesFit
 variables-back root [] fits = refl
@@ -123,7 +123,7 @@ variables-back root (v ∷ vs) fits =
     then-some _ (type-from (v .var-type) typeLevels (root v .0) (root v .1) (rootedNodes root vs) (fits .0))
     (then-some _ (variables-back root vs (fits .1)) refl)
 
-buffers-back : (bs : List (CBufferDef Text Text)) → buffersFrom (map bufferRecord bs) (allVariables bs) ≡ some bs
+pub buffers-back : (bs : List (CBufferDef Text Text)) → buffersFrom (map bufferRecord bs) (allVariables bs) ≡ some bs
 unfolding buffersFrom bufferFrom bufferRecord allVariables check
 buffers-back [] = refl
 buffers-back (b ∷ bs) =

@@ -2,15 +2,17 @@
 use mathlib.Core.Path.{_≡_}
 use mathlib.Core.Bool.{Bool}
 use mathlib.Core.List.{List, _++_}
-use Prim.Native.Nat.{ℕ, _*_, _-_, _/_, _≤_}
+use Prim.Native.Nat.{ℕ, _+_, _*_, _-_, _/_, _≤_}
 use lib.ListN.{length, take}
+use Rattle.words.specs.Words.{wordAt}
 use Rattle.reflection.specs.declared.Text.{Text}
+use Rattle.reflection.specs.declared.CBufferVariable.{CBufferVariable as VariableRecord}
 use Rattle.reflection.specs.Reflection.{CBufferVariable}
 use Rattle.reflection.specs.Texts.{inChunk}
 use Rattle.reflection.specs.Records.{variableWords}
 use Rattle.reflection.specs.Tables.{variableRecord}
 use Rattle.reading.specs.Step.{Room, room}
-use Rattle.reading.specs.Read.{readMany, readVariable, variableStride}
+use Rattle.reading.specs.Read.{readMany, readVariable, variableStride, wordIf}
 use Rattle.type_walk.specs.Progress.{Progress, stopped, reached, progress, appendAll, Grew}
 use Rattle.type_walk.specs.Walk.{appendType}
 use Rattle.table_walk.specs.declared.VariablesWalk.{VariablesWalk}
@@ -22,6 +24,20 @@ appendVariable x w = (w .0 ++ variableWords (variableRecord x), appendType (inCh
 
 unfoldable pub variablesProgress : List ℕ → Bool → ℕ → ℕ → List ℕ × List ℕ → Room → Progress (List ℕ × List ℕ)
 variablesProgress s sm5 n at w r = progress (appendAll appendVariable) (readMany (readVariable s sm5) (variableStride sm5) n at r) w
+
+-- The record of the variable at an offset, whatever its type.
+unfoldable pub variableRow : List ℕ → Bool → ℕ → Text → Text → VariableRecord
+variableRow s sm5 at name default = record {
+  name = name;
+  offset = wordAt s (at + 4);
+  size = wordAt s (at + 8);
+  flags = record { 0 = wordAt s (at + 12) };
+  «default_value» = default;
+  «texture_start» = wordIf sm5 s (at + 24);
+  «texture_size» = wordIf sm5 s (at + 28);
+  «sampler_start» = wordIf sm5 s (at + 32);
+  «sampler_size» = wordIf sm5 s (at + 36);
+}
 
 -- Room for so many variables and nodes, of which v and n are taken.
 pub record ReadyVariables (s : List ℕ) (vcap tcap v n : ℕ) (variables types path : List ℕ) : Type 0 where

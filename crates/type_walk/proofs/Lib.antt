@@ -3,6 +3,6 @@ mod Members
 mod Types
 mod Path
 mod Names
-mod Table
+pub mod Table
 mod MembersWalk
 mod TypeWalk

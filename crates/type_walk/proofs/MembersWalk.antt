@@ -1,5 +1,5 @@
 -- The loop over the members, with the tables: what is left to read decides the outcome, so each turn leaves the outcome of the whole as it was.
-use mathlib.Core.Path.{_≡_, refl, sym, ap, subst, _∙_}
+use mathlib.Core.Path.{_≡_, sym, ap, subst, _∙_}
 use mathlib.Core.Bool.{Bool, true, false}
 use mathlib.Core.List.{List}
 use Prim.Native.Nat.{ℕ, _+_, _*_, _-_, _≤_, _<_}
@@ -10,13 +10,12 @@ use Rattle.words.specs.Parts.{inside}
 use Rattle.text.specs.declared.Found.the-variants.{At, Bad}
 use Rattle.text.specs.Strings.{cstringAt}
 use Rattle.reflection.specs.declared.Refusal.{Refusal}
-use Rattle.reflection.specs.declared.Text.{Text}
 use Rattle.reflection.specs.Outcome.{because}
 use Rattle.reflection.specs.Texts.{inChunk}
 use Rattle.reading.specs.Step.{Room, room}
 use Rattle.type_walk.specs.declared.Walk.{Walk}
 use Rattle.type_walk.specs.declared.Walk.the-variants.{Next, Refused}
-use Rattle.type_walk.specs.Progress.{Progress, onward, Grew}
+use Rattle.type_walk.specs.Progress.{Progress, onward}
 use Rattle.type_walk.specs.Walk.{turned, typeProgress, membersProgress, answered, Walked}
 use Rattle.type_walk.proofs.Members.{members-none, members-short, members-bad, members-on}
 
@@ -30,6 +29,14 @@ pub record Going (s : List ℕ) (sm5 : Bool) (first count levels capacity n : �
   pub high : next ≤ capacity
   pub types-long : length types ≡ length types₀
   pub path-long : length path ≡ length path₀
+
+-- The member at `at` is there: its name has k bytes at `place`, its type lies at `below`, and its offset is `offset`.
+pub record MemberAt (s : List ℕ) (at left place k below offset : ℕ) : Type 0 where
+  pub more : 0 < left
+  pub fits : inside (length s) at 12 ≡ true
+  pub named : cstringAt s (wordAt s at) ≡ At place k
+  pub is-below : below ≡ wordAt s (at + 4)
+  pub is-offset : offset ≡ wordAt s (at + 8)
 
 module _ {s : List ℕ} {sm5 : Bool} {first count levels capacity n : ℕ} {types₀ path₀ types path : List ℕ} {next at left : ℕ}
     (g : Going s sm5 first count levels capacity n types₀ path₀ types path next at left) where
@@ -49,58 +56,56 @@ module _ {s : List ℕ} {sm5 : Bool} {first count levels capacity n : ℕ} {type
     above = g .above;
   }
 
-  module _ (more : 0 < left) where
-    pub ends-short : inside (length s) at 12 ≡ false → Walked whole levels capacity n types₀ types path₀ path (Refused (because 7))
-    ends-short short = record {
-      outcome = λ b f v. g .same b f v ∙ members-short s sm5 levels path-in at sofar (room b f v (capacity - next)) left more short;
-      grew = tt;
-      above = g .above;
-    }
+  pub ends-short : 0 < left → inside (length s) at 12 ≡ false → Walked whole levels capacity n types₀ types path₀ path (Refused (because 7))
+  ends-short more short = record {
+    outcome = λ b f v. g .same b f v ∙ members-short s sm5 levels path-in at sofar (room b f v (capacity - next)) left more short;
+    grew = tt;
+    above = g .above;
+  }
 
-    module _ (fits : inside (length s) at 12 ≡ true) where
-      pub ends-bad : cstringAt s (wordAt s at) ≡ Bad → Walked whole levels capacity n types₀ types path₀ path (Refused (because 11))
-      ends-bad bad = record {
-        outcome = λ b f v. g .same b f v ∙ members-bad s sm5 levels path-in at sofar (room b f v (capacity - next)) left more fits bad;
-        grew = tt;
-        above = g .above;
-      }
+  pub ends-bad : 0 < left → inside (length s) at 12 ≡ true → cstringAt s (wordAt s at) ≡ Bad
+      → Walked whole levels capacity n types₀ types path₀ path (Refused (because 11))
+  ends-bad more fits bad = record {
+    outcome = λ b f v. g .same b f v ∙ members-bad s sm5 levels path-in at sofar (room b f v (capacity - next)) left more fits bad;
+    grew = tt;
+    above = g .above;
+  }
 
-      -- The member's name has k bytes at `place`, its type lies at `below`, and its offset is `offset`.
-      module _ (place k below offset : ℕ) (named : cstringAt s (wordAt s at) ≡ At place k)
-          (is-below : below ≡ wordAt s (at + 4)) (is-offset : offset ≡ wordAt s (at + 8)) (types′ path′ : List ℕ) where
-        abbrev name : Text
-        name = inChunk place k
+  -- The member's type was walked, and left types′ and path′.
+  module _ {place k below offset : ℕ} (m : MemberAt s at left place k below offset) where
+    abbrev type-walked : List ℕ → List ℕ → Walk → Type 0
+    type-walked types′ path′ r =
+        Walked (typeProgress s sm5 levels (turned (take (65 - levels) path)) below (inChunk place k) offset sofar)
+        levels capacity next types types′ path path′ r
 
-        abbrev walked-below : Walk → Type 0
-        walked-below r =
-            Walked (typeProgress s sm5 levels (turned (take (65 - levels) path)) below name offset sofar) levels capacity next types types′ path path′ r
+    after : (types′ path′ : List ℕ) (r : Walk) → type-walked types′ path′ r → (b f v : ℕ)
+        → whole (room b f v (capacity - n)) ≡ onward (membersProgress s sm5 levels path-in (left - 1) (at + 12)) (answered capacity r types′ (room b f v))
+    after types′ path′ r w b f v =
+        let then : Progress (List ℕ) → Progress (List ℕ) = onward (membersProgress s sm5 levels path-in (left - 1) (at + 12)) in
+        let left-over : Room = room b f v (capacity - next) in
+        g .same b f v
+        ∙ members-on s sm5 levels path-in at sofar left-over left place k (m .more) (m .fits) (m .named)
+        ∙ ap (λ (x : ℕ). then (typeProgress s sm5 levels path-in x (inChunk place k) (wordAt s (at + 8)) sofar left-over)) (sym (m .is-below))
+        ∙ ap (λ (x : ℕ). then (typeProgress s sm5 levels path-in below (inChunk place k) x sofar left-over)) (sym (m .is-offset))
+        ∙ ap (λ (p : List ℕ). then (typeProgress s sm5 levels (turned p) below (inChunk place k) offset sofar left-over)) (sym (g .above))
+        ∙ ap then (w .outcome b f v)
 
-        after : (r : Walk) → walked-below r → (b f v : ℕ)
-            → whole (room b f v (capacity - n)) ≡ onward (membersProgress s sm5 levels path-in (left - 1) (at + 12)) (answered capacity r types′ (room b f v))
-        after r w b f v =
-            let then : Progress (List ℕ) → Progress (List ℕ) = onward (membersProgress s sm5 levels path-in (left - 1) (at + 12)) in
-            let r₀ : Room = room b f v (capacity - next) in
-            g .same b f v
-            ∙ members-on s sm5 levels path-in at sofar r₀ left place k more fits named
-            ∙ ap (λ (x : ℕ). then (typeProgress s sm5 levels path-in x name (wordAt s (at + 8)) sofar r₀)) (sym is-below)
-            ∙ ap (λ (x : ℕ). then (typeProgress s sm5 levels path-in below name x sofar r₀)) (sym is-offset)
-            ∙ ap (λ (p : List ℕ). then (typeProgress s sm5 levels (turned p) below name offset sofar r₀)) (sym (g .above))
-            ∙ ap then (w .outcome b f v)
+    pub ends-below : {types′ path′ : List ℕ} {r : Walk} {e : Refusal} → r ≡ Refused e → type-walked types′ path′ r
+        → Walked whole levels capacity n types₀ types′ path₀ path′ (Refused e)
+    ends-below {types′} {path′} {r} {e} is-refused walked =
+        let w : type-walked types′ path′ (Refused e) = subst (type-walked types′ path′) is-refused walked in
+        record { outcome = after types′ path′ (Refused e) w; grew = tt; above = w .above ∙ g .above }
 
-        pub ends-below : (r : Walk) (e : Refusal) → r ≡ Refused e → walked-below r → Walked whole levels capacity n types₀ types′ path₀ path′ (Refused e)
-        ends-below r e is-refused walked =
-            let w : walked-below (Refused e) = subst walked-below is-refused walked in
-            record { outcome = after (Refused e) w; grew = tt; above = w .above ∙ g .above }
-
-        pub goes-on : (r : Walk) (m : ℕ) → r ≡ Next m → walked-below r → length types′ ≡ length types → length path′ ≡ length path
-            → Going s sm5 first count levels capacity n types₀ path₀ types′ path′ m (at + 12) (left - 1)
-        goes-on r m is-next walked types-same path-same =
-            let w : walked-below (Next m) = subst walked-below is-next walked in
-            record {
-              same = after (Next m) w;
-              above = w .above ∙ g .above;
-              low = omega (arith, g .low, w .grew .low);
-              high = w .grew .high;
-              types-long = types-same ∙ g .types-long;
-              path-long = path-same ∙ g .path-long;
-            }
+    pub goes-on : {types′ path′ : List ℕ} {r : Walk} {next′ : ℕ} → r ≡ Next next′ → type-walked types′ path′ r
+        → length types′ ≡ length types → length path′ ≡ length path
+        → Going s sm5 first count levels capacity n types₀ path₀ types′ path′ next′ (at + 12) (left - 1)
+    goes-on {types′} {path′} {r} {next′} is-next walked types-same path-same =
+        let w : type-walked types′ path′ (Next next′) = subst (type-walked types′ path′) is-next walked in
+        record {
+          same = after types′ path′ (Next next′) w;
+          above = w .above ∙ g .above;
+          low = omega (arith, g .low, w .grew .low);
+          high = w .grew .high;
+          types-long = types-same ∙ g .types-long;
+          path-long = path-same ∙ g .path-long;
+        }

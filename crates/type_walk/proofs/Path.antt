@@ -3,28 +3,41 @@
 use mathlib.Core.Path.{_≡_, refl, sym, ap, _∙_}
 use mathlib.Core.Bool.{Bool, true, false, _||_}
 use mathlib.Core.List.{List, [], _∷_, _++_}
-use Prim.Native.Nat.{ℕ, suc, _+_, _≤_, _<_}
+use Prim.Native.Nat.{ℕ, _+_, _≤_, _<_}
 use native.Mathlib.Numerals.{add-one}
+use native.Mathlib.Omega.{arith}
 use borrow.Author.Tests.{eq-eqb, ne-eqb}
 use lib.Dec.{eqb}
 use lib.ListN.{length, getD, take, drop, drop-of-length-le}
-use lib.Seq.{drop-cons, take-take}
+use lib.Seq.{drop-cons, take-take, length-take-le, getD-take}
 use Rattle.reading.specs.Read.{onPath}
 use Rattle.type_walk.specs.Walk.{turnedOnto}
 
--- Looking through a path, from its place i on.
-module _ (path : List ℕ) (at i : ℕ) where
-  pub path-end : length path ≤ i → onPath at (drop i path) ≡ false
-  unfolding onPath
-  path-end h = rw (drop-of-length-le path h)
+-- Looking through the first `depth` offsets of a path, from place i on.
+module _ (path : List ℕ) (depth at i : ℕ) (fits : depth ≤ length path) where
+  long : length (take depth path) ≡ depth
+  long = length-take-le depth path fits
 
-  pub path-here : i < length path → getD path i 0 ≡ at → onPath at (drop i path) ≡ true
+  pub path-end : depth ≤ i → onPath at (drop i (take depth path)) ≡ false
   unfolding onPath
-  path-here h e = rw (drop-cons path i 0 h, onPath, eq-eqb at (getD path i 0) (sym e))
+  path-end h =
+      let past : length (take depth path) ≤ i = omega (arith, long) in
+      rw (drop-of-length-le (take depth path) past)
 
-  pub path-more : i < length path → (getD path i 0 ≡ at → ⊥) → onPath at (drop i path) ≡ onPath at (drop (i + 1) path)
-  unfolding onPath
-  path-more h d = rw (drop-cons path i 0 h, onPath, ne-eqb at (getD path i 0) (λ e. d (sym e)), add-one i)
+  module _ (h : i < depth) where
+    same : getD (take depth path) i 0 ≡ getD path i 0
+    same = getD-take depth path i 0 h
+
+    inner : i < length (take depth path)
+    inner = omega (arith, long)
+
+    pub path-here : getD path i 0 ≡ at → onPath at (drop i (take depth path)) ≡ true
+    unfolding onPath
+    path-here e = rw (drop-cons (take depth path) i 0 inner, onPath, eq-eqb at (getD (take depth path) i 0) (sym (same ∙ e)))
+
+    pub path-more : (getD path i 0 ≡ at → ⊥) → onPath at (drop i (take depth path)) ≡ onPath at (drop (i + 1) (take depth path))
+    unfolding onPath
+    path-more d = rw (drop-cons (take depth path) i 0 inner, onPath, ne-eqb at (getD (take depth path) i 0) (λ e. d (sym (e ∙ same))), add-one i)
 
 or-turn : (a b c : Bool) → (b || (a || c)) ≡ ((a || b) || c)
 or-turn true true c = refl

@@ -62,7 +62,7 @@ module _ (s : List ℕ) (sm5 : Bool) (path : List ℕ) (at : ℕ) (mn : Text) (m
       ap (λ (x : Outcome (TypeDesc Text × Room)). progress (appendType mn mo) x w)
       (check-holds _ _ _ _ (ap not new) ∙ type-taken b f v t _ ∙ check-holds _ _ _ _ fits ∙ bind-is _ _ _)
       ∙ after-members (readMembers below s count first (room b f v t)) (members-count below s count first (room b f v t))
-      ∙ ap (λ (k : ℕ). unlessBad found (membersProgress s sm5 k (at ∷ path) count first (w ++ node found) (room b f v t)))
+      ∙ ap (λ (k : ℕ). unlessBad found (membersProgress s sm5 k (at ∷ path) count first (w ++ node count found) (room b f v t)))
       (let d : levels ≡ suc levels - 1 = omega arith in d)
     where
       below : ℕ → Room → Outcome (TypeDesc Text × Room)
@@ -77,20 +77,19 @@ module _ (s : List ℕ) (sm5 : Bool) (path : List ℕ) (at : ℕ) (mn : Text) (m
       found : Found
       found = typeNameAt s sm5 at
 
-      node : Found → List ℕ
-      node name =
-          typeWords (typeRecord (record { numbers = numbersFrom s sm5 at; member-count = count; name = foundText name; member-name = mn; member-offset = mo }))
+      node : ℕ → Found → List ℕ
+      node k name =
+          typeWords (typeRecord (record { numbers = numbersFrom s sm5 at; member-count = k; name = foundText name; member-name = mn; member-offset = mo }))
 
       after-name : (name : Found) (ms : Members Text) (r : Room) → memberCount ms ≡ count
           → progress (appendType mn mo) (andThen (textOr 11 name r) (λ x. return (typeDesc (numbersFrom s sm5 at) x ms))) w
-          ≡ unlessBad name (reached (appendMembers ms (w ++ node name)) r)
-      after-name (At place n) ms r counted =
-          ap (λ (k : ℕ). reached (appendMembers ms (w ++ typeWords (typeRecord (record { numbers = numbersFrom s sm5 at; member-count = k; name = foundText (At place n); member-name = mn; member-offset = mo })))) r) counted
+          ≡ unlessBad name (reached (appendMembers ms (w ++ node count name)) r)
+      after-name (At place n) ms r counted = ap (λ (k : ℕ). reached (appendMembers ms (w ++ node k (At place n))) r) counted
       after-name Bad ms r counted = refl
 
       after-members : (y : Outcome (Members Text × Room)) → Gives (λ ms. memberCount ms ≡ count) y
           → progress (appendType mn mo) (andThen y (λ ms. textOr 11 found >>= λ x. return (typeDesc (numbersFrom s sm5 at) x ms))) w
-          ≡ unlessBad found (progress appendMembers y (w ++ node found))
+          ≡ unlessBad found (progress appendMembers y (w ++ node count found))
       after-members (ok z) counted =
           ap (λ (y : Outcome (TypeDesc Text × Room)). progress (appendType mn mo) y w) (bind-is _ _ (z .1)) ∙ after-name found (z .0) (z .1) counted
       after-members (refused e) counted = refl

@@ -1,6 +1,6 @@
 // The walk of a type descriptor: a type walks its members and each member walks its type, one level deeper (document 01, "Walk order").
 ghost use mathlib.Core.Path.{_≡_};
-ghost use Prim.Native.Nat.{_+_, _*_, _-_, _≤_};
+ghost use Prim.Native.Nat.{_*_, _-_, _≤_};
 ghost use lib.ListN.{length, take};
 ghost use Rattle.text.specs.Strings.{Within};
 ghost use Rattle.reflection.specs.Tables.{typeRecord};
@@ -32,7 +32,7 @@ pub fn word_if(s: &[u8], long: bool, at: usize) -> u32
 
 // How many bytes a type descriptor takes.
 fn type_stride(sm5: bool) -> usize
-    ensures { λ r. ⌜ (r ≡ typeStride sm5) × (r ≤ 40) ⌝ }
+    ensures { λ r. ⌜ r ≡ typeStride sm5 ⌝ }
 {
     if sm5 { 36 } else { 16 }
 }

@@ -1,9 +1,10 @@
+-- `found_text` answers the text by cases. A place and a length within 65536 fit a word.
+use borrow.Author.Needs.{needs}
 use mathlib.Core.Path.{sym, ap, subst}
+use Prim.Native.Nat.{_+_, _≤_}
 use native.Mathlib.Omega.{arith}
-use Rattle.text.specs.declared.Found.the-variants.{At}
 use Rattle.text.specs.Strings.{Within}
 use Rattle.type_walk.specs.Walk.{foundText}
-use borrow.Author.Needs.{needs}
 use Rattle.type_walk.proofs.found_text.Statement.{statement}
 use Rattle.type_walk.proofs.found_text.Tie as tie
 
@@ -11,11 +12,15 @@ enum-known-found : tie.Need-enum-known-found
 enum-known-found c = search needs
 
 cast-t5 : tie.Need-cast-t5
-cast-t5 c = let within : Within 65536 (At (c .before .found .given .0 .0) (c .before .found .given .0 .1 .0)) = subst (Within 65536) (c .before .found .given .1) (c .before .before .before .pre) in
+cast-t5 c =
+    let found = c .before .found .given in
+    let within : found .0 .0 + found .0 .1 .0 ≤ 65536 = subst (Within 65536) (found .1) (c .before .before .before .pre) in
     omega arith
 
 cast-t6 : tie.Need-cast-t6
-cast-t6 c = let within : Within 65536 (At (c .before .found .given .0 .0) (c .before .found .given .0 .1 .0)) = subst (Within 65536) (c .before .found .given .1) (c .before .before .before .pre) in
+cast-t6 c =
+    let found = c .before .found .given in
+    let within : found .0 .0 + found .0 .1 .0 ≤ 65536 = subst (Within 65536) (found .1) (c .before .before .before .pre) in
     omega arith
 
 enum-told : tie.Need-enum-told

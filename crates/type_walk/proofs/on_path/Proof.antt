@@ -1,9 +1,9 @@
+-- `on_path` answers whether the offset is among the first `depth`. The invariant: those before place i are others, so the rest decides.
 use borrow.Author.Needs.{needs}
 use mathlib.Core.Path.{_≡_, refl, sym, _∙_}
 use Prim.Native.Nat.{_≤_, _-_}
 use native.Mathlib.Omega.{arith}
-use lib.ListN.{length, take, drop}
-use lib.Seq.{length-take-le, getD-take}
+use lib.ListN.{take, drop}
 use Rattle.reading.specs.Read.{onPath}
 use Rattle.type_walk.proofs.Path.{path-end, path-here, path-more}
 use Rattle.type_walk.proofs.on_path.Statement.{statement}
@@ -25,9 +25,10 @@ shared-slice-read-if1 : tie.Need-shared-slice-read-if1 Inv-loop μ-loop
 shared-slice-read-if1 c = omega arith
 
 returns : tie.Need-returns Inv-loop μ-loop
-returns c = let long : length (take (c .before .before .before .before .args .depth) (c .before .before .before .before .args .path .now)) ≡ c .before .before .before .before .args .depth = length-take-le (c .before .before .before .before .args .depth) (c .before .before .before .before .args .path .now) (omega arith) in
-    sym (c .before .before .before .loop .inv .1 ∙ path-here (take (c .before .before .before .before .args .depth) (c .before .before .before .before .args .path .now)) (c .before .before .before .before .args .at) (c .before .before .before .loop .i) (omega arith)
-    (getD-take (c .before .before .before .before .args .depth) (c .before .before .before .before .args .path .now) (c .before .before .before .loop .i) 0 (omega arith) ∙ c .if1 .taken))
+returns c =
+    let a = c .before .before .before .before .args in
+    let l = c .before .before .before .loop in
+    sym (l .inv .1 ∙ path-here (a .path .now) (a .depth) (a .at) (l .i) (omega arith) (omega arith) (c .if1 .taken))
 
 add-i : tie.Need-add-i Inv-loop μ-loop
 add-i c = omega arith
@@ -36,16 +37,16 @@ loop-less : tie.Need-loop-less Inv-loop μ-loop
 loop-less c = omega arith
 
 loop-again : tie.Need-loop-again Inv-loop μ-loop
-loop-again c = let long : length (take (c .before .before .before .before .args .depth) (c .before .before .before .before .args .path .now)) ≡ c .before .before .before .before .args .depth = length-take-le (c .before .before .before .before .args .depth) (c .before .before .before .before .args .path .now) (omega arith) in (
-  omega arith,
-  c .before .before .before .loop .inv .1
-      ∙ path-more (take (c .before .before .before .before .args .depth) (c .before .before .before .before .args .path .now)) (c .before .before .before .before .args .at) (c .before .before .before .loop .i) (omega arith)
-      (λ e. c .if1 .left (sym (getD-take (c .before .before .before .before .args .depth) (c .before .before .before .before .args .path .now) (c .before .before .before .loop .i) 0 (omega arith)) ∙ e)),
-)
+loop-again c =
+    let a = c .before .before .before .before .args in
+    let l = c .before .before .before .loop in
+    (omega arith, l .inv .1 ∙ path-more (a .path .now) (a .depth) (a .at) (l .i) (omega arith) (omega arith) (c .if1 .left))
 
 returns-2 : tie.Need-returns-2 Inv-loop μ-loop
-returns-2 c = let long : length (take (c .before .before .args .depth) (c .before .before .args .path .now)) ≡ c .before .before .args .depth = length-take-le (c .before .before .args .depth) (c .before .before .args .path .now) (omega arith) in
-    sym (c .before .loop .inv .1 ∙ path-end (take (c .before .before .args .depth) (c .before .before .args .path .now)) (c .before .before .args .at) (c .before .loop .i) (omega arith))
+returns-2 c =
+    let a = c .before .before .args in
+    let l = c .before .loop in
+    sym (l .inv .1 ∙ path-end (a .path .now) (a .depth) (a .at) (l .i) (omega arith) (omega arith))
 
 pub on-path-spec : {M : Type 1} → statement M
 on-path-spec =

@@ -1,0 +1,8 @@
+pub mod Lookup
+pub mod BothWays
+pub mod InputTypes
+pub mod Dimensions
+pub mod VariableClasses
+pub mod BaseTypes
+pub mod Masks
+pub mod Examples

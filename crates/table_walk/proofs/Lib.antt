@@ -1,0 +1,11 @@
+-- Laws that the walks' proofs cite.
+mod Many
+mod Table
+mod Codes
+mod Default
+mod OneBinding
+mod OneVariable
+mod OneBuffer
+mod BindingsLoop
+mod VariablesLoop
+mod BuffersLoop

@@ -1,0 +1,113 @@
+// The walk of the bindings.
+ghost use mathlib.Core.Path.{_≡_};
+ghost use Prim.Native.Nat.{_≤_};
+ghost use Rattle.reflection.specs.Tables.{bindingRecord};
+ghost use Rattle.reading.specs.Read.{bindingStride, bindingFrom};
+ghost use Rattle.table_walk.specs.Bindings.{codeFault, bindingsProgress, ReadyBindings, WalkedBindings};
+use codes::BindingFlags;
+use reflection::Refusal;
+use reflection::ResourceBinding;
+use reflection::Text;
+use text::Found;
+use type_walk::Walk;
+
+// How many bytes a binding takes.
+fn binding_stride(wide: bool) -> usize
+    ensures { λ r. ⌜ (r ≡ bindingStride wide) × (r ≤ 40) ⌝ }
+{
+    if wide { 40 } else { 32 }
+}
+
+// 8, 9 or 10 where a code of the binding at `at` is not allowed, else 0.
+fn code_fault(s: &[u8], at: usize) -> u32
+    requires { ⌜ at ≤ 65536 ⌝ }
+    ensures { λ r. ⌜ r ≡ codeFault (now (s .entry)) at ⌝ }
+{
+    if words::word_at(s, at + 4) <= 13 {
+        if words::word_at(s, at + 12) <= 11 {
+            if words::word_at(s, at + 28) <= 0x1f {
+                0
+            } else {
+                10
+            }
+        } else {
+            9
+        }
+    } else {
+        8
+    }
+}
+
+// The binding at `at`, whose name is known.
+fn binding_record(s: &[u8], at: usize, wide: bool, name: Text) -> ResourceBinding
+    requires { ⌜ at ≤ 65536 ⌝ }
+    ensures { λ r. ⌜ r ≡ bindingRecord (bindingFrom (now (s .entry)) wide at name) ⌝ }
+{
+    ResourceBinding {
+        name: name,
+        input_type: words::word_at(s, at + 4),
+        return_type: words::word_at(s, at + 8),
+        dimension: words::word_at(s, at + 12),
+        num_samples: words::word_at(s, at + 16),
+        bind_point: words::word_at(s, at + 20),
+        bind_count: words::word_at(s, at + 24),
+        flags: BindingFlags(words::word_at(s, at + 28)),
+        space: type_walk::word_if(s, wide, at + 32),
+        id: type_walk::word_if(s, wide, at + 36),
+    }
+}
+
+// Walks `count` bindings, whose records begin at `first`.
+pub fn walk_bindings(
+    s: &[u8],
+    first: u32,
+    count: u32,
+    wide: bool,
+    capacity: usize,
+    table: &mut [u32],
+) -> Walk
+    requires { ⌜ ReadyBindings (now s) capacity (now table) ⌝ }
+    ensures { λ r. ⌜ WalkedBindings (bindingsProgress (now (s .entry)) wide count first) capacity (now (table .exit)) r ⌝ }
+{
+    let stride = binding_stride(wide);
+    let mut next: usize = 0;
+    let mut at = first as usize;
+    let mut left = count;
+    while 0 < left {
+        if capacity <= next {
+            return Walk::Refused(Refusal { number: 15 });
+        }
+        if words::inside(s.len(), at, stride) {
+            let fault = code_fault(s, at);
+            if 0 < fault {
+                return Walk::Refused(Refusal { number: fault });
+            }
+            let name = words::word_at(s, at);
+            let found = text::cstring_at(s, name as usize);
+            match found {
+                Found::Bad => {
+                    return Walk::Refused(Refusal { number: 11 });
+                }
+                Found::At(place, long) => {
+                    let binding = binding_record(
+                        s,
+                        at,
+                        wide,
+                        Text {
+                            source: 0,
+                            place: place as u32,
+                            length: long as u32,
+                        },
+                    );
+                    reflection::put_binding(table, next, binding);
+                }
+            }
+        } else {
+            return Walk::Refused(Refusal { number: 7 });
+        }
+        next += 1;
+        at += stride;
+        left -= 1;
+    }
+    Walk::Next(next)
+}

@@ -1,0 +1,161 @@
+-- What the code of `walk_members` leaves to show: sums that fit, lengths that stay, and at each return the law of the loop that says what was walked.
+use mathlib.Core.Path.{refl, sym, ap, subst, _∙_}
+use Prim.Native.Nat.{ℕ, _+_, _≤_}
+use native.Mathlib.Omega.{arith}
+use lib.ListN.{length}
+use Rattle.words.proofs.Parts.{inside-fits}
+use Rattle.text.specs.Strings.{cstringAt, Within}
+use Rattle.type_walk.proofs.walk_members.Reads as own
+use Rattle.type_walk.proofs.+walk_members+walk_type.Lts-walk_members as lts
+use Rattle.type_walk.proofs.+walk_members+walk_type.Proof.Measure.{members-calls, walk-members-at, Inv-loop, μ-loop}
+use Rattle.type_walk.proofs.MembersWalk.{MemberAt, ends, ends-short, ends-bad, ends-below, goes-on}
+
+module _ (t : ℕ) where
+  pub loop-holds : lts.Need-loop-holds (members-calls t) (walk-members-at t) own.Post Inv-loop μ-loop
+  loop-holds c =
+      let ready = c .before .before .before .pre .1 in
+      record { same = λ b f v. refl; above = refl; low = omega arith; high = ready .next; types-long = refl; path-long = refl }
+
+  -- In a turn of the loop, once the member's record is known to lie in the chunk: the places of its words fit.
+  module _ (c : lts.Then1 (members-calls t) (walk-members-at t) own.Post Inv-loop μ-loop) where
+    abbrev start : lts.Start (members-calls t) (walk-members-at t) own.Post Inv-loop μ-loop
+    start = c .before .before .before .before .before .before .before
+
+    abbrev turn : lts.At-loop (members-calls t) (walk-members-at t) own.Post Inv-loop μ-loop
+    turn = c .before .before .before
+
+    record-fits : turn .loop .at + 12 ≤ length (start .args .s .now)
+    record-fits = inside-fits (length (start .args .s .now)) (turn .loop .at) 12 (sym (c .before .inside .ensures) ∙ c .if1 .taken)
+
+  pub add-word-at : lts.Need-add-word-at (members-calls t) (walk-members-at t) own.Post Inv-loop μ-loop
+  add-word-at c =
+      let inside = c .before in
+      omega (arith, record-fits inside, start inside .good .0 .0)
+
+  pub add-word-at-2 : lts.Need-add-word-at-2 (members-calls t) (walk-members-at t) own.Post Inv-loop μ-loop
+  add-word-at-2 c =
+      let inside = c .before .before in
+      omega (arith, record-fits inside, start inside .good .0 .0)
+
+  -- Once the member's name is found.
+  module _ (c : lts.After-known-told (members-calls t) (walk-members-at t) own.Post Inv-loop μ-loop) where
+    abbrev record-inside : lts.Then1 (members-calls t) (walk-members-at t) own.Post Inv-loop μ-loop
+    record-inside = c .before .before .before .before .before .before .before
+
+    abbrev entry : lts.Start (members-calls t) (walk-members-at t) own.Post Inv-loop μ-loop
+    entry = start record-inside
+
+    abbrev this-turn : lts.At-loop (members-calls t) (walk-members-at t) own.Post Inv-loop μ-loop
+    this-turn = turn record-inside
+
+    name-fits : c .before .found .given .0 .0 + c .before .found .given .0 .1 .0 ≤ length (entry .args .s .now)
+    name-fits = subst (Within (length (entry .args .s .now))) (c .before .found .given .1) (c .before .before .before .cstring-at .ensures .1)
+
+    member-at : MemberAt (entry .args .s .now) (this-turn .loop .at) (this-turn .loop .left) (c .before .found .given .0 .0) (c .before .found .given .0 .1 .0)
+        (c .before .before .before .before .before .word-at2 .result) (c .before .before .before .before .word-at3 .result)
+    member-at = record {
+      more = record-inside .before .before .loop-test .taken;
+      fits = sym (record-inside .before .inside .ensures) ∙ record-inside .if1 .taken;
+      named =
+          sym (c .before .before .before .cstring-at .ensures .0 ∙ ap (cstringAt (entry .args .s .now)) (c .before .before .before .before .before .before .word-at .ensures))
+          ∙ c .before .found .given .1;
+      is-below = c .before .before .before .before .before .word-at2 .ensures;
+      is-offset = c .before .before .before .before .word-at3 .ensures;
+    }
+
+  -- Its place and its length fit a word, since the chunk is no longer than 65536 bytes.
+  pub cast-place : lts.Need-cast-t28 (members-calls t) (walk-members-at t) own.Post Inv-loop μ-loop
+  cast-place c = omega (arith, name-fits c, entry c .pre .1 .chunk)
+
+  pub cast-length : lts.Need-cast-t29 (members-calls t) (walk-members-at t) own.Post Inv-loop μ-loop
+  cast-length c = omega (arith, name-fits c, entry c .pre .1 .chunk)
+
+  -- The measure of the type's walk is one less, and it is given what this walk has.
+  pub walk-type-requires : lts.Need-walk-type-requires (members-calls t) (walk-members-at t) own.Post Inv-loop μ-loop
+  walk-type-requires c κs =
+      let named = c .before .before in
+      let ready = entry named .pre .1 in
+      let going = this-turn named .loop .inv in (
+        omega (arith, entry named .pre .0),
+        record {
+          chunk = ready .chunk;
+          levels-fit = ready .levels-fit;
+          path-is = going .path-long ∙ ready .path-is;
+          next = going .high;
+          fits = omega (arith, going .types-long, ready .fits);
+        },
+      )
+
+  -- The member's name is bad.
+  pub returns : lts.Need-returns (members-calls t) (walk-members-at t) own.Post Inv-loop μ-loop
+  returns c =
+      let inside = c .before .before .before .before .before .before in
+      ends-bad (turn inside .loop .inv) (inside .before .before .loop-test .taken) (sym (inside .before .inside .ensures) ∙ inside .if1 .taken)
+      (sym (c .before .before .cstring-at .ensures .0 ∙ ap (cstringAt (start inside .args .s .now)) (c .before .before .before .before .before .word-at .ensures)) ∙ c .enum-told .given .1)
+
+  -- The walk of the member's type refused.
+  pub returns-2 : lts.Need-returns-2 (members-calls t) (walk-members-at t) own.Post Inv-loop μ-loop
+  returns-2 c =
+      let named = c .before .before .before .before .before .before .before .before .before .before in
+      let walked = c .before .before .before .before .before .before .before in
+      ends-below (this-turn named .loop .inv) (member-at named) (c .before .answer .given .1) (walked .walk-type .ensures)
+
+  -- The member's record runs past the chunk.
+  pub returns-3 : lts.Need-returns-3 (members-calls t) (walk-members-at t) own.Post Inv-loop μ-loop
+  returns-3 c = ends-short (c .before .before .before .loop .inv) (c .before .before .loop-test .taken) (sym (c .before .inside .ensures) ∙ c .if1 .left)
+
+  -- The next member.
+  pub add-at : lts.Need-add-at (members-calls t) (walk-members-at t) own.Post Inv-loop μ-loop
+  add-at c =
+      let named = c .before .before .before .before .before .before .before .before .before .before in
+      omega (arith, record-fits (record-inside named), entry named .good .0 .0)
+
+  pub sub-left : lts.Need-sub-left (members-calls t) (walk-members-at t) own.Post Inv-loop μ-loop
+  sub-left c =
+      let named = c .before .before .before .before .before .before .before .before .before .before in
+      omega (arith, member-at named .more)
+
+  pub loop-less : lts.Need-loop-less (members-calls t) (walk-members-at t) own.Post Inv-loop μ-loop
+  loop-less c =
+      let named = c .before .before .before .before .before .before .before .before .before .before in
+      omega (arith, member-at named .more)
+
+  pub loop-again : lts.Need-loop-again (members-calls t) (walk-members-at t) own.Post Inv-loop μ-loop
+  loop-again c =
+      let named = c .before .before .before .before .before .before .before .before .before .before in
+      let walked = c .before .before .before .before .before .before .before in
+      goes-on (this-turn named .loop .inv) (member-at named) (c .before .answer2 .given .1) (walked .walk-type .ensures)
+      (walked .walk-type .kept .1 .1 .1 .1 .1 .1 .0) (walked .walk-type .kept .1 .1 .1 .1 .1 .1 .1 .0)
+
+  -- No member is left.
+  pub returns-4 : lts.Need-returns-4 (members-calls t) (walk-members-at t) own.Post Inv-loop μ-loop
+  returns-4 c = ends (c .before .loop .inv) (c .loop-test .left)
+
+  -- The tables keep their lengths, whichever way the walk returns.
+  pub same-length : lts.Need-same-length (members-calls t) (walk-members-at t) own.Post Inv-loop μ-loop
+  same-length c = c .before .before .before .before .before .before .before .before .before .loop .inv .types-long
+
+  pub same-length-2 : lts.Need-same-length-2 (members-calls t) (walk-members-at t) own.Post Inv-loop μ-loop
+  same-length-2 c = c .before .before .before .before .before .before .before .before .before .loop .inv .path-long
+
+  pub same-length-3 : lts.Need-same-length-3 (members-calls t) (walk-members-at t) own.Post Inv-loop μ-loop
+  same-length-3 c =
+      let named = c .before .before .before .before .before .before .before .before .before .before in
+      c .before .before .before .before .before .before .before .walk-type .kept .1 .1 .1 .1 .1 .1 .0 ∙ this-turn named .loop .inv .types-long
+
+  pub same-length-4 : lts.Need-same-length-4 (members-calls t) (walk-members-at t) own.Post Inv-loop μ-loop
+  same-length-4 c =
+      let named = c .before .before .before .before .before .before .before .before .before .before in
+      c .before .before .before .before .before .before .before .walk-type .kept .1 .1 .1 .1 .1 .1 .1 .0 ∙ this-turn named .loop .inv .path-long
+
+  pub same-length-5 : lts.Need-same-length-5 (members-calls t) (walk-members-at t) own.Post Inv-loop μ-loop
+  same-length-5 c = c .before .before .before .loop .inv .types-long
+
+  pub same-length-6 : lts.Need-same-length-6 (members-calls t) (walk-members-at t) own.Post Inv-loop μ-loop
+  same-length-6 c = c .before .before .before .loop .inv .path-long
+
+  pub same-length-7 : lts.Need-same-length-7 (members-calls t) (walk-members-at t) own.Post Inv-loop μ-loop
+  same-length-7 c = c .before .loop .inv .types-long
+
+  pub same-length-8 : lts.Need-same-length-8 (members-calls t) (walk-members-at t) own.Post Inv-loop μ-loop
+  same-length-8 c = c .before .loop .inv .path-long
