@@ -1,7 +1,7 @@
 -- Reading an RDEF chunk: document 01, "Walk order", to the letter. The numbers are those of its table of refusals.
 use mathlib.Core.Bool.{Bool, true, false, _&&_, _||_, not}
 use mathlib.Core.List.{List, [], _∷_}
-use Prim.Native.Nat.{ℕ, zero, suc, _+_, _/_, _%_}
+use Prim.Native.Nat.{ℕ, zero, suc, _+_}
 use lib.Dec.{eqb, leb}
 use lib.ListN.{length}
 use Rattle.words.specs.Words.{wordAt, lowAt, highAt}
@@ -12,6 +12,8 @@ use Rattle.text.specs.Strings.{cstringAt}
 use Rattle.reflection.specs.declared.Text.{Text}
 use Rattle.reflection.specs.Outcome.{Outcome, ok, refused}
 use Rattle.reflection.specs.Reflection.{TypeNumbers, TypeDesc, typeDesc, Members, noMember, member, Rd11, noRd11, rd11, ResourceBinding, CBufferVariable, CBufferDef, ResourceDef, isSm5, isWide}
+pub use Rattle.reflection.specs.Reflection.{majorOf}
+use Rattle.reflection.specs.Nodes.{typeLevels}
 use Rattle.reading.specs.Step.{Room, Step, _>>=_, return, refuse, check, textOr, takeBinding, takeBuffer, takeVariable, takeType}
 
 -- Strides in bytes. Major 5 has longer variables and type descriptors; a binding of 40 bytes has space and id.
@@ -78,10 +80,6 @@ numbersFrom s sm5 at = record {
   extra2 = wordIf sm5 s (at + 24);
   extra3 = wordIf sm5 s (at + 28);
 }
-
--- The root of a type stands at depth 0 and the deepest node at 64: 65 levels.
-abbrev pub typeLevels : ℕ
-typeLevels = 65
 
 -- The type at an offset, with so many levels left below the descriptors on `path`: depth, path, room, range, members, name.
 unfoldable pub readType : List ℕ → Bool → ℕ → List ℕ → ℕ → Step (TypeDesc Text)
@@ -162,10 +160,6 @@ readBinding s wide at = do
   _ ← check (leb (wordAt s (at + 28)) 0x1f) 10
   name ← textOr 11 (cstringAt s (wordAt s at))
   return (bindingFrom s wide at name)
-
--- The major version: bits 8 to 15 of the version word.
-abbrev pub majorOf : ℕ → ℕ
-majorOf version = version / 256 % 256
 
 -- The RD11 words that are allowed: identifier "RD11" or 0x25441313; header 60; buffer stride 24; binding stride 32 or 40; variable stride 40;
 -- type stride 36; member stride 12; the interface slots are free. Either identifier goes with either binding stride.

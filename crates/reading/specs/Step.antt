@@ -6,6 +6,7 @@ use Rattle.text.specs.declared.Found.the-variants.{At, Bad}
 use Rattle.reflection.specs.declared.Text.{Text}
 use Rattle.reflection.specs.Outcome.{Outcome, ok, refused, because}
 use Rattle.reflection.specs.Texts.{inChunk}
+use Rattle.reflection.specs.Records.{bindingWidth, bufferWidth, variableWidth, typeWidth}
 
 -- How many records each table can still take.
 pub record Room : Type 0 where
@@ -23,7 +24,7 @@ fullRoom = room 1024 64 2048 4096
 
 -- The room of tables of that many words: whole records, at most document 01's room.
 unfoldable pub roomOf : ℕ → ℕ → ℕ → ℕ → Room
-roomOf b f v t = room (min (b / 12) 1024) (min (f / 7) 64) (min (v / 13) 2048) (min (t / 17) 4096)
+roomOf b f v t = room (min (b / bindingWidth) 1024) (min (f / bufferWidth) 64) (min (v / variableWidth) 2048) (min (t / typeWidth) 4096)
 
 abbrev pub Step : Type 0 → Type 0
 Step A = Room → Outcome (A × Room)

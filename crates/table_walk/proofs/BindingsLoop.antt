@@ -9,13 +9,14 @@ use Rattle.words.specs.Words.{wordAt}
 use Rattle.words.specs.Parts.{inside}
 use Rattle.text.specs.declared.Found.the-variants.{At, Bad}
 use Rattle.text.specs.Strings.{cstringAt}
+use Rattle.reflection.specs.declared.Text.{Text}
 use Rattle.reflection.specs.declared.ResourceBinding.{ResourceBinding}
 use Rattle.reflection.specs.declared.Refusal.{Refusal}
 use Rattle.reflection.specs.Outcome.{because}
 use Rattle.reflection.specs.Texts.{inChunk}
 use Rattle.reflection.specs.Records.{bindingWords, putRecord}
 use Rattle.reflection.specs.Tables.{bindingRecord}
-use Rattle.reading.specs.Step.{Room, room}
+use Rattle.reading.specs.Step.{room}
 use Rattle.reading.specs.Read.{readBinding, bindingStride, bindingFrom}
 use Rattle.type_walk.specs.declared.Walk.{Walk}
 use Rattle.type_walk.specs.declared.Walk.the-variants.{Next, Refused}
@@ -86,20 +87,23 @@ module _ {s : List ℕ} {wide : Bool} {first count capacity : ℕ} {table₀ tab
           pub ends-named-badly : cstringAt s (wordAt s at) ≡ Bad → result table (Refused (because 11))
           ends-named-badly bad = stops (suc after) one-less (λ f v t. binding-named-badly s wide at (take (next * 12) table) f v t after fits codes bad)
 
-          pub goes-on : {place n : ℕ} → cstringAt s (wordAt s at) ≡ At place n → {binding : ResourceBinding} → binding ≡ bindingRecord (bindingFrom s wide at (inChunk place n))
-              → {table₁ : List ℕ} → table₁ ≡ putRecord 12 table next (bindingWords binding) → length table₁ ≡ length table → (stride : ℕ) → stride ≡ bindingStride wide
-              → BindingsLeft s wide first count capacity table₀ table₁ (next + 1) (at + stride) (left - 1)
+          pub goes-on : {place n : ℕ} → cstringAt s (wordAt s at) ≡ At place n
+              → {name : Text} → name ≡ inChunk place n → {binding : ResourceBinding} → binding ≡ bindingRecord (bindingFrom s wide at name)
+              → {table₁ : List ℕ} → table₁ ≡ putRecord 12 table next (bindingWords binding) → length table₁ ≡ length table
+              → (stride : ℕ) → stride ≡ bindingStride wide → BindingsLeft s wide first count capacity table₀ table₁ (next + 1) (at + stride) (left - 1)
           unfolding bindingsProgress bindingWords
-          goes-on {place} {n} name {binding} is {table₁} put long stride is-stride =
-              let words : List ℕ = bindingWords (bindingRecord (bindingFrom s wide at (inChunk place n))) in
+          goes-on {place} {n} found {name} is-name {binding} is {table₁} put long stride is-stride =
+              let words : Text → List ℕ = λ (x : Text). bindingWords (bindingRecord (bindingFrom s wide at x)) in
               let in-table : next < length table / 12 = omega (arith, ready .fits, so-far .long) in
-              let taken : take ((next + 1) * 12) table₁ ≡ take (next * 12) table ++ words =
-              ap (take ((next + 1) * 12)) (put ∙ ap (λ (x : ResourceBinding). putRecord 12 table next (bindingWords x)) is) ∙ record-appended 12 table next words in-table refl in
+              let taken : take ((next + 1) * 12) table₁ ≡ take (next * 12) table ++ words (inChunk place n) =
+              ap (take ((next + 1) * 12)) (put ∙ ap (λ (x : ResourceBinding). putRecord 12 table next (bindingWords x)) is)
+              ∙ record-appended 12 table next (words name) in-table refl
+              ∙ ap (λ (x : Text). take (next * 12) table ++ words x) is-name in
               record {
                 same = λ f v t.
                     so-far .same f v t
                     ∙ many-further appendBinding (readBinding s wide) (bindingStride wide) left at (take (next * 12) table) (room (capacity - next) f v t) some
-                    (ap (λ (k : ℕ). one k f v t) one-less ∙ binding-read s wide at (take (next * 12) table) f v t after fits codes place n name)
+                    (ap (λ (k : ℕ). one k f v t) one-less ∙ binding-read s wide at (take (next * 12) table) f v t after fits codes place n found)
                     ∙ ap (λ (w : List ℕ). bindingsProgress s wide (left - 1) (at + bindingStride wide) w (room after f v t)) (sym taken)
                     ∙ ap (λ (k : ℕ). bindingsProgress s wide (left - 1) (at + k) (take ((next + 1) * 12) table₁) (room after f v t)) (sym is-stride);
                 grew = record { low = omega arith; high = omega arith };

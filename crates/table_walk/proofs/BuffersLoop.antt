@@ -10,12 +10,13 @@ use Rattle.words.specs.Parts.{inside}
 use Rattle.text.specs.declared.Found.{Found}
 use Rattle.text.specs.declared.Found.the-variants.{At, Bad}
 use Rattle.text.specs.Strings.{cstringAt}
+use Rattle.reflection.specs.declared.Text.{Text}
 use Rattle.reflection.specs.declared.CBufferDef.{CBufferDef}
 use Rattle.reflection.specs.declared.Refusal.{Refusal}
 use Rattle.reflection.specs.Outcome.{because}
 use Rattle.reflection.specs.Texts.{inChunk}
 use Rattle.reflection.specs.Records.{bufferWords, putRecord}
-use Rattle.reading.specs.Step.{Room, room}
+use Rattle.reading.specs.Step.{room}
 use Rattle.reading.specs.Read.{readBuffer}
 use Rattle.type_walk.specs.Progress.{Progress, stopped, progress, onward, Grew}
 use Rattle.table_walk.specs.declared.VariablesWalk.{VariablesWalk}
@@ -90,7 +91,8 @@ module _ {s : List ℕ} {sm5 : Bool} {first count fcap vcap tcap : ℕ} {buffers
     abbrev one : ℕ → ℕ → Progress Words
     one b k = progress appendBuffer (readBuffer s sm5 at (room b k (vcap - variable) (tcap - node))) written
 
-    stops : {e : Refusal} {buffers′ variables′ types′ : List ℕ} (k : ℕ) → fcap - next ≡ k → ((b : ℕ) → one b k ≡ stopped e) → result buffers′ variables′ types′ (Halted e)
+    stops : {e : Refusal} {buffers′ variables′ types′ : List ℕ} (k : ℕ) → fcap - next ≡ k → ((b : ℕ) → one b k ≡ stopped e)
+        → result buffers′ variables′ types′ (Halted e)
     unfolding buffersProgress
     stops k free refusal = record {
       outcome = λ b.
@@ -118,15 +120,21 @@ module _ {s : List ℕ} {sm5 : Bool} {first count fcap vcap tcap : ℕ} {buffers
         abbrev walked : VariablesWalk → Type 0
         walked r = WalkedVariables (variablesProgress s sm5 many start) vcap tcap variable node variables variables₁ types types₁ r
 
+        abbrev named : Found → Progress (List ℕ × List ℕ) → Progress Words
+        named found = onward (ifNamed s at (take (next * 7) buffers) found)
+
+        abbrev variablesAt : ℕ → ℕ → ℕ → Progress (List ℕ × List ℕ)
+        variablesAt n x b = variablesProgress s sm5 n x (written .1) (room b after (vcap - variable) (tcap - node))
+
         -- what that walk leaves is what reading the buffer appends, where its name is good
         filled : (found : Found) → cstringAt s (wordAt s at) ≡ found → (r : VariablesWalk) → walked r → (b : ℕ)
-            → one b (suc after) ≡ onward (ifNamed s at (take (next * 7) buffers) found) (variablesAnswered vcap tcap r variables₁ types₁ (room b after))
+            → one b (suc after) ≡ named found (variablesAnswered vcap tcap r variables₁ types₁ (room b after))
         filled found is r walk b =
             buffer-read s sm5 at written b (vcap - variable) (tcap - node) after fits
-            ∙ ap (λ (x : Found). onward (ifNamed s at (take (next * 7) buffers) x) (variablesProgress s sm5 (wordAt s (at + 4)) (wordAt s (at + 8)) (written .1) (room b after (vcap - variable) (tcap - node)))) is
-            ∙ ap (λ (x : ℕ). onward (ifNamed s at (take (next * 7) buffers) found) (variablesProgress s sm5 x (wordAt s (at + 8)) (written .1) (room b after (vcap - variable) (tcap - node)))) (sym is-many)
-            ∙ ap (λ (x : ℕ). onward (ifNamed s at (take (next * 7) buffers) found) (variablesProgress s sm5 many x (written .1) (room b after (vcap - variable) (tcap - node)))) (sym is-start)
-            ∙ ap (onward (ifNamed s at (take (next * 7) buffers) found)) (walk .outcome b after)
+            ∙ ap (λ (x : Found). named x (variablesAt (wordAt s (at + 4)) (wordAt s (at + 8)) b)) is
+            ∙ ap (λ (x : ℕ). named found (variablesAt x (wordAt s (at + 8)) b)) (sym is-many)
+            ∙ ap (λ (x : ℕ). named found (variablesAt many x b)) (sym is-start)
+            ∙ ap (named found) (walk .outcome b after)
 
         pub ends-below : {r : VariablesWalk} (e : Refusal) → r ≡ Stopped e → walked r → result buffers variables₁ types₁ (Halted e)
         ends-below e is-stopped walk = stops (suc after) one-less (filled (cstringAt s (wordAt s at)) refl (Stopped e) (subst walked is-stopped walk))
@@ -135,23 +143,27 @@ module _ {s : List ℕ} {sm5 : Bool} {first count fcap vcap tcap : ℕ} {buffers
           pub ends-named-badly : cstringAt s (wordAt s at) ≡ Bad → result buffers variables₁ types₁ (Halted (because 11))
           ends-named-badly bad = stops (suc after) one-less (filled Bad bad (Ended v n) (subst walked is-ended answer))
 
-          pub goes-on : {place length₀ : ℕ} → cstringAt s (wordAt s at) ≡ At place length₀ → {buffer : CBufferDef} → buffer ≡ bufferRow s at (inChunk place length₀)
+          pub goes-on : {place size : ℕ} → cstringAt s (wordAt s at) ≡ At place size
+              → {name : Text} → name ≡ inChunk place size → {buffer : CBufferDef} → buffer ≡ bufferRow s at name
               → {buffers₁ : List ℕ} → buffers₁ ≡ putRecord 7 buffers next (bufferWords buffer) → (path₁ : List ℕ)
               → length buffers₁ ≡ length buffers → length variables₁ ≡ length variables → length types₁ ≡ length types → length path₁ ≡ length path
               → BuffersLeft s sm5 first count fcap vcap tcap buffers₀ variables₀ types₀ path₀ buffers₁ variables₁ types₁ path₁ (next + 1) v n (at + 24) (left - 1)
           unfolding buffersProgress bufferWords
-          goes-on {place} {length₀} name {buffer} is {buffers₁} put path₁ long long-variables long-types long-path =
+          goes-on {place} {size} found {name} is-name {buffer} is {buffers₁} put path₁ long long-variables long-types long-path =
               let walk : walked (Ended v n) = subst walked is-ended answer in
+              let words : Text → List ℕ = λ (x : Text). bufferWords (bufferRow s at x) in
+              let words₁ : List ℕ × List ℕ = (take (v * 13) variables₁, take (n * 17) types₁) in
               let in-table : next < length buffers / 7 = omega (arith, ready .buffers-fit, so-far .long) in
-              let taken : take ((next + 1) * 7) buffers₁ ≡ take (next * 7) buffers ++ bufferWords (bufferRow s at (inChunk place length₀)) =
+              let taken : take ((next + 1) * 7) buffers₁ ≡ take (next * 7) buffers ++ words (inChunk place size) =
               ap (take ((next + 1) * 7)) (put ∙ ap (λ (x : CBufferDef). putRecord 7 buffers next (bufferWords x)) is)
-              ∙ record-appended 7 buffers next (bufferWords (bufferRow s at (inChunk place length₀))) in-table refl in
+              ∙ record-appended 7 buffers next (words name) in-table refl
+              ∙ ap (λ (x : Text). take (next * 7) buffers ++ words x) is-name in
               record {
                 same = λ b.
                     so-far .same b
                     ∙ many-further appendBuffer (readBuffer s sm5) 24 left at written (room b (fcap - next) (vcap - variable) (tcap - node)) some
-                    (ap (one b) one-less ∙ filled (At place length₀) name (Ended v n) walk b)
-                    ∙ ap (λ (x : List ℕ). buffersProgress s sm5 (left - 1) (at + 24) (x, (take (v * 13) variables₁, take (n * 17) types₁)) (room b after (vcap - v) (tcap - n))) (sym taken);
+                    (ap (one b) one-less ∙ filled (At place size) found (Ended v n) walk b)
+                    ∙ ap (λ (x : List ℕ). buffersProgress s sm5 (left - 1) (at + 24) (x, words₁) (room b after (vcap - v) (tcap - n))) (sym taken);
                 grew = record { low = omega arith; high = omega arith };
                 grew-variables = record { low = omega arith; high = walk .grew .0 .high };
                 grew-types = record { low = omega arith; high = walk .grew .1 .high };

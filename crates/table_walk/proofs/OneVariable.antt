@@ -43,26 +43,26 @@ module _ (s : List ℕ) (sm5 : Bool) (at : ℕ) (w : List ℕ × List ℕ) (b f 
       unfolding readVariable
       variable-default-outside outside = ap appended (variable-taken b f v t _ ∙ check-holds _ _ _ _ fits ∙ text-bad _ _ _ _ outside)
 
-      module _ (dplace dlength : ℕ) (default : defaultAt s (wordAt s (at + 20)) (wordAt s (at + 8)) ≡ At dplace dlength) where
+      module _ (dplace dsize : ℕ) (default : defaultAt s (wordAt s (at + 20)) (wordAt s (at + 8)) ≡ At dplace dsize) where
         pub variable-named-badly : cstringAt s (wordAt s at) ≡ Bad → one ≡ stopped (because 11)
         unfolding readVariable
         variable-named-badly bad =
-            ap appended (variable-taken b f v t _ ∙ check-holds _ _ _ _ fits ∙ text-found _ _ _ _ dplace dlength default ∙ text-bad _ _ _ _ bad)
+            ap appended (variable-taken b f v t _ ∙ check-holds _ _ _ _ fits ∙ text-found _ _ _ _ dplace dsize default ∙ text-bad _ _ _ _ bad)
 
         -- its record, and then the nodes of its type
-        pub variable-read : (place n : ℕ) → cstringAt s (wordAt s at) ≡ At place n
+        pub variable-read : (place size : ℕ) → cstringAt s (wordAt s at) ≡ At place size
             → one
-            ≡ onward (λ nodes r. reached (w .0 ++ variableWords (variableRow s sm5 at (inChunk place n) (inChunk dplace dlength)), nodes) r)
+            ≡ onward (λ nodes r. reached (w .0 ++ variableWords (variableRow s sm5 at (inChunk place size) (inChunk dplace dsize)), nodes) r)
             (typeProgress s sm5 65 [] (wordAt s (at + 16)) (inChunk 0 0) 0 (w .1) (room b f v t))
         unfolding readVariable typeProgress return appendVariable variableRecord variableFrom variableRow
-        variable-read place n name =
+        variable-read place size found =
             ap appended
-            (variable-taken b f v t _ ∙ check-holds _ _ _ _ fits ∙ text-found _ _ _ _ dplace dlength default ∙ text-found _ _ _ _ place n name ∙ bind-is _ _ _)
+            (variable-taken b f v t _ ∙ check-holds _ _ _ _ fits ∙ text-found _ _ _ _ dplace dsize default ∙ text-found _ _ _ _ place size found ∙ bind-is _ _ _)
             ∙ typed (readType s sm5 65 [] (wordAt s (at + 16)) (room b f v t))
           where
             typed : (y : Outcome (TypeDesc Text × Room))
-                → appended (andThen y (λ type. return (variableFrom s sm5 at (inChunk place n) (inChunk dplace dlength) type)))
-                ≡ onward (λ nodes r. reached (w .0 ++ variableWords (variableRow s sm5 at (inChunk place n) (inChunk dplace dlength)), nodes) r)
+                → appended (andThen y (λ type. return (variableFrom s sm5 at (inChunk place size) (inChunk dplace dsize) type)))
+                ≡ onward (λ nodes r. reached (w .0 ++ variableWords (variableRow s sm5 at (inChunk place size) (inChunk dplace dsize)), nodes) r)
                 (progress (appendType (inChunk 0 0) 0) y (w .1))
             typed (ok z) = refl
             typed (refused e) = refl

@@ -9,12 +9,13 @@ use Rattle.words.specs.Words.{wordAt}
 use Rattle.words.specs.Parts.{inside}
 use Rattle.text.specs.declared.Found.the-variants.{At, Bad}
 use Rattle.text.specs.Strings.{cstringAt}
+use Rattle.reflection.specs.declared.Text.{Text}
 use Rattle.reflection.specs.declared.CBufferVariable.{CBufferVariable}
 use Rattle.reflection.specs.declared.Refusal.{Refusal}
 use Rattle.reflection.specs.Outcome.{because}
 use Rattle.reflection.specs.Texts.{inChunk}
 use Rattle.reflection.specs.Records.{variableWords, putRecord}
-use Rattle.reading.specs.Step.{Room, room}
+use Rattle.reading.specs.Step.{room}
 use Rattle.reading.specs.Read.{readVariable, variableStride, defaultAt}
 use Rattle.type_walk.specs.declared.Walk.{Walk}
 use Rattle.type_walk.specs.declared.Walk.the-variants.{Next, Refused}
@@ -28,7 +29,8 @@ use Rattle.table_walk.proofs.Table.{record-appended}
 use Rattle.table_walk.proofs.OneVariable.{variable-full, variable-short, variable-default-outside, variable-named-badly, variable-read}
 
 -- The loop's invariant: `next` variables and `node` nodes stand in the tables, and `left` variables are left, from `at` on.
-pub record VariablesLeft (s : List ℕ) (sm5 : Bool) (first count vcap tcap v n : ℕ) (variables₀ types₀ path₀ variables types path : List ℕ) (next node at left : ℕ) : Type 0 where
+pub record VariablesLeft (s : List ℕ) (sm5 : Bool) (first count vcap tcap v n : ℕ) (variables₀ types₀ path₀ variables types path : List ℕ)
+    (next node at left : ℕ) : Type 0 where
   pub same : (b f : ℕ) → variablesProgress s sm5 count first (take (v * 13) variables₀, take (n * 17) types₀) (room b f (vcap - v) (tcap - n))
       ≡ variablesProgress s sm5 left at (take (next * 13) variables, take (node * 17) types) (room b f (vcap - next) (tcap - node))
   pub grew : Grew vcap v next
@@ -105,36 +107,44 @@ module _ {s : List ℕ} {sm5 : Bool} {first count vcap tcap v n : ℕ} {variable
         pub ends-default-outside : defaultAt s (wordAt s (at + 20)) (wordAt s (at + 8)) ≡ Bad → result variables types (Stopped (because 12))
         ends-default-outside outside = stops (suc after) one-less (λ b f. variable-default-outside s sm5 at written b f (tcap - node) after fits outside)
 
-        module _ {dplace dlength : ℕ} (default : defaultAt s (wordAt s (at + 20)) (wordAt s (at + 8)) ≡ At dplace dlength) where
+        module _ {dplace dsize : ℕ} (default : defaultAt s (wordAt s (at + 20)) (wordAt s (at + 8)) ≡ At dplace dsize) where
           pub ends-named-badly : cstringAt s (wordAt s at) ≡ Bad → result variables types (Stopped (because 11))
-          ends-named-badly bad = stops (suc after) one-less (λ b f. variable-named-badly s sm5 at written b f (tcap - node) after fits dplace dlength default bad)
+          ends-named-badly bad = stops (suc after) one-less (λ b f. variable-named-badly s sm5 at written b f (tcap - node) after fits dplace dsize default bad)
 
           -- its record is written, and its type at `below` was walked
-          module _ {place length₀ : ℕ} (name : cstringAt s (wordAt s at) ≡ At place length₀)
-              {variable : CBufferVariable} (is : variable ≡ variableRow s sm5 at (inChunk place length₀) (inChunk dplace dlength))
+          module _ {place size : ℕ} (found : cstringAt s (wordAt s at) ≡ At place size)
+              {name initial : Text} (is-name : name ≡ inChunk place size) (is-initial : initial ≡ inChunk dplace dsize)
+              {variable : CBufferVariable} (is : variable ≡ variableRow s sm5 at name initial)
               {variables₁ : List ℕ} (put : variables₁ ≡ putRecord 13 variables next (variableWords variable))
               {below : ℕ} (is-below : below ≡ wordAt s (at + 16)) (types₁ path₁ : List ℕ) where
             abbrev walked : Walk → Type 0
             walked r = Walked (typeProgress s sm5 65 [] below (inChunk 0 0) 0 (take (node * 17) types)) 65 tcap node types types₁ path path₁ r
 
-            abbrev words : List ℕ
-            words = variableWords (variableRow s sm5 at (inChunk place length₀) (inChunk dplace dlength))
+            abbrev words : Text → Text → List ℕ
+            words x y = variableWords (variableRow s sm5 at x y)
 
-            taken : take ((next + 1) * 13) variables₁ ≡ take (next * 13) variables ++ words
+            taken : take ((next + 1) * 13) variables₁ ≡ take (next * 13) variables ++ words (inChunk place size) (inChunk dplace dsize)
             unfolding variableWords
             taken =
                 let in-table : next < length variables / 13 = omega (arith, ready .variables-fit, so-far .long) in
                 ap (take ((next + 1) * 13)) (put ∙ ap (λ (x : CBufferVariable). putRecord 13 variables next (variableWords x)) is)
-                ∙ record-appended 13 variables next words in-table refl
+                ∙ record-appended 13 variables next (words name initial) in-table refl
+                ∙ ap (λ (x : Text). take (next * 13) variables ++ words x initial) is-name
+                ∙ ap (λ (x : Text). take (next * 13) variables ++ words (inChunk place size) x) is-initial
+
+            abbrev recorded : List ℕ → Progress (List ℕ) → Progress (List ℕ × List ℕ)
+            recorded w = onward (λ nodes r. reached (w, nodes) r)
+
+            abbrev typeAt : ℕ → ℕ → ℕ → Progress (List ℕ)
+            typeAt x b f = typeProgress s sm5 65 [] x (inChunk 0 0) 0 (take (node * 17) types) (room b f after (tcap - node))
 
             -- what the walk of the type leaves is what reading the variable appends
-            typed : (r : Walk) → walked r → (b f : ℕ)
-                → one b f (suc after) ≡ onward (λ nodes left. reached (take ((next + 1) * 13) variables₁, nodes) left) (answered tcap r types₁ (room b f after))
+            typed : (r : Walk) → walked r → (b f : ℕ) → one b f (suc after) ≡ recorded (take ((next + 1) * 13) variables₁) (answered tcap r types₁ (room b f after))
             typed r type b f =
-                variable-read s sm5 at written b f (tcap - node) after fits dplace dlength default place length₀ name
-                ∙ ap (λ (x : List ℕ). onward (λ nodes left. reached (x, nodes) left) (typeProgress s sm5 65 [] (wordAt s (at + 16)) (inChunk 0 0) 0 (take (node * 17) types) (room b f after (tcap - node)))) (sym taken)
-                ∙ ap (λ (x : ℕ). onward (λ nodes left. reached (take ((next + 1) * 13) variables₁, nodes) left) (typeProgress s sm5 65 [] x (inChunk 0 0) 0 (take (node * 17) types) (room b f after (tcap - node)))) (sym is-below)
-                ∙ ap (onward (λ nodes left. reached (take ((next + 1) * 13) variables₁, nodes) left)) (type .outcome b f after)
+                variable-read s sm5 at written b f (tcap - node) after fits dplace dsize default place size found
+                ∙ ap (λ (x : List ℕ). recorded x (typeAt (wordAt s (at + 16)) b f)) (sym taken)
+                ∙ ap (λ (x : ℕ). recorded (take ((next + 1) * 13) variables₁) (typeAt x b f)) (sym is-below)
+                ∙ ap (recorded (take ((next + 1) * 13) variables₁)) (type .outcome b f after)
 
             pub ends-below : {r : Walk} (e : Refusal) → r ≡ Refused e → walked r → result variables₁ types₁ (Stopped e)
             ends-below e is-refused type = stops (suc after) one-less (typed (Refused e) (subst walked is-refused type))
@@ -145,12 +155,13 @@ module _ {s : List ℕ} {sm5 : Bool} {first count vcap tcap v n : ℕ} {variable
             unfolding variablesProgress
             goes-on m is-next answer stride is-stride long long-types long-path =
                 let type : walked (Next m) = subst walked is-next answer in
+                let words₁ : List ℕ × List ℕ = (take ((next + 1) * 13) variables₁, take (m * 17) types₁) in
                 record {
                   same = λ b f.
                       so-far .same b f
                       ∙ many-further appendVariable (readVariable s sm5) (variableStride sm5) left at written (room b f (vcap - next) (tcap - node)) some
                       (ap (one b f) one-less ∙ typed (Next m) type b f)
-                      ∙ ap (λ (k : ℕ). variablesProgress s sm5 (left - 1) (at + k) (take ((next + 1) * 13) variables₁, take (m * 17) types₁) (room b f after (tcap - m))) (sym is-stride);
+                      ∙ ap (λ (k : ℕ). variablesProgress s sm5 (left - 1) (at + k) words₁ (room b f after (tcap - m))) (sym is-stride);
                   grew = record { low = omega (arith, so-far .grew .low); high = omega arith };
                   grew-types = record { low = omega (arith, so-far .grew-types .low, type .grew .low); high = type .grew .high };
                   long = long ∙ so-far .long;

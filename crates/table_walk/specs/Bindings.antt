@@ -1,7 +1,7 @@
 -- The walk of the bindings: what it is given, and what it leaves.
 use mathlib.Core.Path.{_≡_}
 use mathlib.Core.Bool.{Bool, true, false}
-use mathlib.Core.List.{List, [], _∷_, _++_}
+use mathlib.Core.List.{List, [], _++_}
 use Prim.Native.Nat.{ℕ, _+_, _*_, _-_, _/_, _≤_}
 use lib.Dec.{leb}
 use lib.ListN.{length, take}

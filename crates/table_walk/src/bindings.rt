@@ -4,6 +4,7 @@ ghost use Prim.Native.Nat.{_≤_};
 ghost use Rattle.reflection.specs.Tables.{bindingRecord};
 ghost use Rattle.reading.specs.Read.{bindingStride, bindingFrom};
 ghost use Rattle.table_walk.specs.Bindings.{codeFault, bindingsProgress, ReadyBindings, WalkedBindings};
+use crate::in_chunk;
 use codes::BindingFlags;
 use reflection::Refusal;
 use reflection::ResourceBinding;
@@ -77,34 +78,20 @@ pub fn walk_bindings(
         if capacity <= next {
             return Walk::Refused(Refusal { number: 15 });
         }
-        if words::inside(s.len(), at, stride) {
-            let fault = code_fault(s, at);
-            if 0 < fault {
-                return Walk::Refused(Refusal { number: fault });
-            }
-            let name = words::word_at(s, at);
-            let found = text::cstring_at(s, name as usize);
-            match found {
-                Found::Bad => {
-                    return Walk::Refused(Refusal { number: 11 });
-                }
-                Found::At(place, long) => {
-                    let binding = binding_record(
-                        s,
-                        at,
-                        wide,
-                        Text {
-                            source: 0,
-                            place: place as u32,
-                            length: long as u32,
-                        },
-                    );
-                    reflection::put_binding(table, next, binding);
-                }
-            }
-        } else {
+        if !words::inside(s.len(), at, stride) {
             return Walk::Refused(Refusal { number: 7 });
         }
+        let fault = code_fault(s, at);
+        if 0 < fault {
+            return Walk::Refused(Refusal { number: fault });
+        }
+        let name = words::word_at(s, at);
+        let found = text::cstring_at(s, name as usize);
+        let Found::At(place, n) = found else {
+            return Walk::Refused(Refusal { number: 11 });
+        };
+        let binding = binding_record(s, at, wide, in_chunk(place, n));
+        reflection::put_binding(table, next, binding);
         next += 1;
         at += stride;
         left -= 1;

@@ -4,6 +4,7 @@ ghost use Prim.Native.Nat.{_≤_};
 ghost use Rattle.table_walk.specs.Buffers.{bufferRow, buffersProgress, ReadyBuffers, WalkedBuffers};
 use crate::BuffersWalk;
 use crate::VariablesWalk;
+use crate::in_chunk;
 use crate::variables::walk_variables;
 use reflection::CBufferDef;
 use reflection::Refusal;
@@ -51,53 +52,40 @@ pub fn walk_buffers(
         if fcap <= next {
             return BuffersWalk::Halted(Refusal { number: 15 });
         }
-        if words::inside(s.len(), at, 24) {
-            let many = words::word_at(s, at + 4);
-            let start = words::word_at(s, at + 8);
-            let answer = walk_variables(
-                s,
-                start,
-                many,
-                sm5,
-                vcap,
-                tcap,
-                variables,
-                types,
-                path,
-                variable,
-                node,
-            );
-            match answer {
-                VariablesWalk::Stopped(refusal) => {
-                    return BuffersWalk::Halted(refusal);
-                }
-                VariablesWalk::Ended(v, n) => {
-                    let name = words::word_at(s, at);
-                    let found = text::cstring_at(s, name as usize);
-                    match found {
-                        Found::Bad => {
-                            return BuffersWalk::Halted(Refusal { number: 11 });
-                        }
-                        Found::At(place, long) => {
-                            let buffer = buffer_record(
-                                s,
-                                at,
-                                Text {
-                                    source: 0,
-                                    place: place as u32,
-                                    length: long as u32,
-                                },
-                            );
-                            reflection::put_buffer(buffers, next, buffer);
-                            variable = v;
-                            node = n;
-                        }
-                    }
-                }
-            }
-        } else {
+        if !words::inside(s.len(), at, 24) {
             return BuffersWalk::Halted(Refusal { number: 7 });
         }
+        let many = words::word_at(s, at + 4);
+        let start = words::word_at(s, at + 8);
+        let answer = walk_variables(
+            s,
+            start,
+            many,
+            sm5,
+            vcap,
+            tcap,
+            variables,
+            types,
+            path,
+            variable,
+            node,
+        );
+        match answer {
+            VariablesWalk::Stopped(refusal) => {
+                return BuffersWalk::Halted(refusal);
+            }
+            VariablesWalk::Ended(v, n) => {
+                variable = v;
+                node = n;
+            }
+        }
+        let name = words::word_at(s, at);
+        let found = text::cstring_at(s, name as usize);
+        let Found::At(place, n) = found else {
+            return BuffersWalk::Halted(Refusal { number: 11 });
+        };
+        let buffer = buffer_record(s, at, in_chunk(place, n));
+        reflection::put_buffer(buffers, next, buffer);
         next += 1;
         at += 24;
         left -= 1;

@@ -1,11 +1,13 @@
 // The walk of a buffer's variables, each with the nodes of its type.
 ghost use mathlib.Core.Path.{_≡_};
-ghost use Prim.Native.Nat.{_≤_};
+ghost use Prim.Native.Nat.{_+_, _≤_};
 ghost use lib.ListN.{length};
+ghost use Rattle.words.specs.Words.{wordAt};
 ghost use Rattle.text.specs.Strings.{Within};
 ghost use Rattle.reading.specs.Read.{variableStride, defaultAt};
 ghost use Rattle.table_walk.specs.Variables.{variableRow, variablesProgress, ReadyVariables, WalkedVariables};
 use crate::VariablesWalk;
+use crate::in_chunk;
 use codes::VariableFlags;
 use reflection::CBufferVariable;
 use reflection::Refusal;
@@ -21,18 +23,21 @@ fn variable_stride(sm5: bool) -> usize
     if sm5 { 40 } else { 24 }
 }
 
-// A default: offset 0 means empty, any other must lie in the chunk.
-fn default_at(s: &[u8], offset: u32, size: u32) -> Found
-    ensures { λ r. ⌜ (r ≡ defaultAt (now (s .entry)) offset size) × Within (length (now (s .entry))) r ⌝ }
+// The default of the variable at `at`: offset 0 means empty, any other must lie in the chunk.
+fn default_of(s: &[u8], at: usize) -> Found
+    requires { ⌜ at ≤ 65536 ⌝ }
+    ensures { λ r. ⌜ (r ≡ defaultAt (now (s .entry)) (wordAt (now (s .entry)) (at + 20)) (wordAt (now (s .entry)) (at + 8)))
+        × Within (length (now (s .entry))) r ⌝ }
 {
+    let offset = words::word_at(s, at + 20);
+    let size = words::word_at(s, at + 8);
     if offset == 0 {
-        Found::At(0, 0)
+        return Found::At(0, 0);
+    }
+    if words::inside(s.len(), offset as usize, size as usize) {
+        Found::At(offset as usize, size as usize)
     } else {
-        if words::inside(s.len(), offset as usize, size as usize) {
-            Found::At(offset as usize, size as usize)
-        } else {
-            Found::Bad
-        }
+        Found::Bad
     }
 }
 
@@ -73,6 +78,14 @@ pub fn walk_variables(
         vcap tcap v n (now (variables .entry)) (now (variables .exit)) (now (types .entry)) (now (types .exit)) r ⌝ }
 {
     let stride = variable_stride(sm5);
+    let root = Member {
+        name: Text {
+            source: 0,
+            place: 0,
+            length: 0,
+        },
+        offset: 0,
+    };
     let mut next = v;
     let mut node = n;
     let mut at = first as usize;
@@ -81,72 +94,29 @@ pub fn walk_variables(
         if vcap <= next {
             return VariablesWalk::Stopped(Refusal { number: 15 });
         }
-        if words::inside(s.len(), at, stride) {
-            let offset = words::word_at(s, at + 20);
-            let size = words::word_at(s, at + 8);
-            let default = default_at(s, offset, size);
-            match default {
-                Found::Bad => {
-                    return VariablesWalk::Stopped(Refusal { number: 12 });
-                }
-                Found::At(dplace, dlong) => {
-                    let name = words::word_at(s, at);
-                    let found = text::cstring_at(s, name as usize);
-                    match found {
-                        Found::Bad => {
-                            return VariablesWalk::Stopped(Refusal { number: 11 });
-                        }
-                        Found::At(place, long) => {
-                            let variable = variable_record(
-                                s,
-                                at,
-                                sm5,
-                                Text {
-                                    source: 0,
-                                    place: place as u32,
-                                    length: long as u32,
-                                },
-                                Text {
-                                    source: 0,
-                                    place: dplace as u32,
-                                    length: dlong as u32,
-                                },
-                            );
-                            reflection::put_variable(variables, next, variable);
-                            let below = words::word_at(s, at + 16);
-                            let root = Member {
-                                name: Text {
-                                    source: 0,
-                                    place: 0,
-                                    length: 0,
-                                },
-                                offset: 0,
-                            };
-                            let answer = type_walk::walk_type(
-                                s,
-                                below,
-                                sm5,
-                                65,
-                                root,
-                                tcap,
-                                types,
-                                path,
-                                node,
-                            );
-                            match answer {
-                                Walk::Refused(refusal) => {
-                                    return VariablesWalk::Stopped(refusal);
-                                }
-                                Walk::Next(m) => {
-                                    node = m;
-                                }
-                            }
-                        }
-                    }
-                }
-            }
-        } else {
+        if !words::inside(s.len(), at, stride) {
             return VariablesWalk::Stopped(Refusal { number: 7 });
+        }
+        let default = default_of(s, at);
+        let Found::At(dplace, dsize) = default else {
+            return VariablesWalk::Stopped(Refusal { number: 12 });
+        };
+        let name = words::word_at(s, at);
+        let found = text::cstring_at(s, name as usize);
+        let Found::At(place, size) = found else {
+            return VariablesWalk::Stopped(Refusal { number: 11 });
+        };
+        let variable = variable_record(s, at, sm5, in_chunk(place, size), in_chunk(dplace, dsize));
+        reflection::put_variable(variables, next, variable);
+        let below = words::word_at(s, at + 16);
+        let answer = type_walk::walk_type(s, below, sm5, 65, root, tcap, types, path, node);
+        match answer {
+            Walk::Refused(refusal) => {
+                return VariablesWalk::Stopped(refusal);
+            }
+            Walk::Next(m) => {
+                node = m;
+            }
         }
         next += 1;
         at += stride;

@@ -1,5 +1,6 @@
 -- `parse_rdef` meets its contract: what `read_tables` left, cleared after the records or whole, is what the outcome says. Assumes nothing.
 use mathlib.Core.Path.{_∙_}
+use Rattle.reader.specs.Parsed.{readInto}
 use Rattle.reader.proofs.Cleared.{refused-parses, read-parses}
 use borrow.Author.Needs.{needs}
 use Rattle.reader.proofs.parse_rdef.Statement.{statement}
@@ -78,37 +79,51 @@ returns : tie.Need-returns
 returns c =
     let in-refused = c .before .before .before .before .before .before .before .before .before .before .before .before .before .before .before .before in
     let filled = in-refused .before .before .before .before .before .before .before .before .before .before .before in
-    refused-parses (filled .read-tables .ensures) (filled .read-tables .kept .1 .0) (filled .read-tables .kept .1 .1 .0) (filled .read-tables .kept .1 .1 .1 .0) (filled .read-tables .kept .1 .1 .1 .1 .0)
+    let entry = filled .before .before .before .before .before .before .before .before .before .before in
+    refused-parses {out = readInto (entry .args .chunk .now) (entry .args .bindings .now) (entry .args .buffers .now) (entry .args .variables .now) (entry .args .types .now)}
+    (filled .read-tables .ensures) (filled .read-tables .kept .1 .0) (filled .read-tables .kept .1 .1 .0) (filled .read-tables .kept .1 .1 .1 .0) (filled .read-tables .kept .1 .1 .1 .1 .0)
     (in-refused .before .parsed .given .0 .0) (in-refused .before .parsed .given .1)
-    (c .before .before .before .before .before .before .before .before .before .before .before .before .before .before .clear .ensures) (c .before .before .before .before .before .before .before .before .before .before .clear2 .ensures) (c .before .before .before .before .before .before .clear3 .ensures) (c .before .before .clear4 .ensures)
+    (c .before .before .before .before .before .before .before .before .before .before .before .before .before .before .clear .ensures)
+    (c .before .before .before .before .before .before .before .before .before .before .clear2 .ensures)
+    (c .before .before .before .before .before .before .clear3 .ensures)
+    (c .before .before .clear4 .ensures)
 
 same-length-5 : tie.Need-same-length-5
 same-length-5 c =
-    let filled = c .before .before .before .before .before .before .before .before .before .before .before .before .before .before .before .before .before .before .before .before .before .before .before .before .before .before .before .before .before .before .before in
+    let in-read = c .before .before .before .before .before .before .before .before .before .before .before .before .before .before .before .before .before .before .before .before in
+    let filled = in-read .before .before .before .before .before .before .before .before .before .before .before in
     c .before .before .before .before .before .before .before .before .before .before .before .before .before .before .before .before .before .clear-from .kept .0 ∙ filled .read-tables .kept .1 .0
 
 same-length-6 : tie.Need-same-length-6
 same-length-6 c =
-    let filled = c .before .before .before .before .before .before .before .before .before .before .before .before .before .before .before .before .before .before .before .before .before .before .before .before .before .before .before .before .before .before .before in
+    let in-read = c .before .before .before .before .before .before .before .before .before .before .before .before .before .before .before .before .before .before .before .before in
+    let filled = in-read .before .before .before .before .before .before .before .before .before .before .before in
     c .before .before .before .before .before .before .before .before .before .before .before .before .clear-from2 .kept .0 ∙ filled .read-tables .kept .1 .1 .0
 
 same-length-7 : tie.Need-same-length-7
 same-length-7 c =
-    let filled = c .before .before .before .before .before .before .before .before .before .before .before .before .before .before .before .before .before .before .before .before .before .before .before .before .before .before .before .before .before .before .before in
+    let in-read = c .before .before .before .before .before .before .before .before .before .before .before .before .before .before .before .before .before .before .before .before in
+    let filled = in-read .before .before .before .before .before .before .before .before .before .before .before in
     c .before .before .before .before .before .before .before .clear-from3 .kept .0 ∙ filled .read-tables .kept .1 .1 .1 .0
 
 same-length-8 : tie.Need-same-length-8
 same-length-8 c =
-    let filled = c .before .before .before .before .before .before .before .before .before .before .before .before .before .before .before .before .before .before .before .before .before .before .before .before .before .before .before .before .before .before .before in
+    let in-read = c .before .before .before .before .before .before .before .before .before .before .before .before .before .before .before .before .before .before .before .before in
+    let filled = in-read .before .before .before .before .before .before .before .before .before .before .before in
     c .before .before .clear-from4 .kept .0 ∙ filled .read-tables .kept .1 .1 .1 .1 .0
 
 returns-2 : tie.Need-returns-2
 returns-2 c =
     let in-read = c .before .before .before .before .before .before .before .before .before .before .before .before .before .before .before .before .before .before .before .before in
     let filled = in-read .before .before .before .before .before .before .before .before .before .before .before in
-    read-parses (filled .read-tables .ensures) (filled .read-tables .kept .1 .0) (filled .read-tables .kept .1 .1 .0) (filled .read-tables .kept .1 .1 .1 .0) (filled .read-tables .kept .1 .1 .1 .1 .0)
+    let entry = filled .before .before .before .before .before .before .before .before .before .before in
+    read-parses {out = readInto (entry .args .chunk .now) (entry .args .bindings .now) (entry .args .buffers .now) (entry .args .variables .now) (entry .args .types .now)}
+    (filled .read-tables .ensures) (filled .read-tables .kept .1 .0) (filled .read-tables .kept .1 .1 .0) (filled .read-tables .kept .1 .1 .1 .0) (filled .read-tables .kept .1 .1 .1 .1 .0)
     (in-read .before .parsed2 .given .0 .0) (in-read .before .parsed2 .given .1)
-    (c .before .before .before .before .before .before .before .before .before .before .before .before .before .before .before .before .before .clear-from .ensures) (c .before .before .before .before .before .before .before .before .before .before .before .before .clear-from2 .ensures) (c .before .before .before .before .before .before .before .clear-from3 .ensures) (c .before .before .clear-from4 .ensures)
+    (c .before .before .before .before .before .before .before .before .before .before .before .before .before .before .before .before .before .clear-from .ensures)
+    (c .before .before .before .before .before .before .before .before .before .before .before .before .clear-from2 .ensures)
+    (c .before .before .before .before .before .before .before .clear-from3 .ensures)
+    (c .before .before .clear-from4 .ensures)
 
 pub parse-rdef-spec : {M : Type 1} → statement M
 parse-rdef-spec =

@@ -48,14 +48,16 @@ cast-t22 c =
     let in-found = c .before in
     let in-known = in-found .before .before .before .before in
     let entry = in-known .before .before .before .before .before .before .before in
-    record { fits = omega (arith, creator-fits (entry .args .s .now) (in-found .found .given .0 .0) (in-found .found .given .0 .1 .0) (in-known .before .before .before .before .if2 .left) (in-found .before .before .cstring-at .ensures .1) (in-found .found .given .1)) }
+    let within = creator-fits (entry .args .s .now) (in-found .found .given .0 .0) (in-found .found .given .0 .1 .0) (in-known .before .before .before .before .if2 .left) (in-found .before .before .cstring-at .ensures .1) (in-found .found .given .1) in
+    record { fits = omega (arith, within) }
 
 cast-t23 : tie.Need-cast-t23
 cast-t23 c =
     let in-found = c .before in
     let in-known = in-found .before .before .before .before in
     let entry = in-known .before .before .before .before .before .before .before in
-    record { fits = omega (arith, creator-fits (entry .args .s .now) (in-found .found .given .0 .0) (in-found .found .given .0 .1 .0) (in-known .before .before .before .before .if2 .left) (in-found .before .before .cstring-at .ensures .1) (in-found .found .given .1)) }
+    let within = creator-fits (entry .args .s .now) (in-found .found .given .0 .0) (in-found .found .given .0 .1 .0) (in-known .before .before .before .before .if2 .left) (in-found .before .before .cstring-at .ensures .1) (in-found .found .given .1) in
+    record { fits = omega (arith, within) }
 
 rd11-fault-requires : tie.Need-rd11-fault-requires
 rd11-fault-requires c κs = search needs
@@ -72,7 +74,8 @@ returns-3 c =
     let entry = in-known .before .before .before .before .before .before .before in
     let s = entry .args .s .now in
     let known : knownMajor s ≡ true = known-is s (in-known .before .before .before .word-at .ensures) (in-known .before .one-of .ensures) (in-known .if3 .taken) in
-    refused-creator s (in-known .before .before .before .before .before .if1 .left) (in-known .before .before .before .before .if2 .left) known (creator-is s (c .before .before .before .word-at2 .ensures) (c .before .before .cstring-at .ensures .0) (c .enum-told .given .1))
+    refused-creator s (in-known .before .before .before .before .before .if1 .left) (in-known .before .before .before .before .if2 .left) known
+    (creator-is s (c .before .before .before .word-at2 .ensures) (c .before .before .cstring-at .ensures .0) (c .enum-told .given .1))
 
 returns-4 : tie.Need-returns-4
 returns-4 c =
@@ -81,9 +84,11 @@ returns-4 c =
     let entry = in-known .before .before .before .before .before .before .before in
     let s = entry .args .s .now in
     let known : knownMajor s ≡ true = known-is s (in-known .before .before .before .word-at .ensures) (in-known .before .one-of .ensures) (in-known .if3 .taken) in
-    let creator : cstringAt s (wordAt s 24) ≡ At (in-found .found .given .0 .0) (in-found .found .given .0 .1 .0) = creator-is s (in-found .before .before .before .word-at2 .ensures) (in-found .before .before .cstring-at .ensures .0) (in-found .found .given .1) in
+    let creator : cstringAt s (wordAt s 24) ≡ At (in-found .found .given .0 .0) (in-found .found .given .0 .1 .0) =
+    creator-is s (in-found .before .before .before .word-at2 .ensures) (in-found .before .before .cstring-at .ensures .0) (in-found .found .given .1) in
     let five : eqb (majorAt s) 5 ≡ true = major5-is s (in-known .before .before .before .word-at .ensures) (in-known .before .before .same .ensures) (c .before .before .before .before .if4 .taken) in
-    refused-rd11 s (in-known .before .before .before .before .before .if1 .left) (in-known .before .before .before .before .if2 .left) known _ _ creator five (c .before .before .before .rd11-fault .result) (sym (c .before .before .before .rd11-fault .ensures)) (c .if5 .taken)
+    refused-rd11 s (in-known .before .before .before .before .before .if1 .left) (in-known .before .before .before .before .if2 .left) known _ _ creator five
+    (c .before .before .before .rd11-fault .result) (sym (c .before .before .before .rd11-fault .ensures)) (c .if5 .taken)
 
 returns-5 : tie.Need-returns-5
 returns-5 c =
@@ -92,11 +97,17 @@ returns-5 c =
     let entry = in-known .before .before .before .before .before .before .before in
     let s = entry .args .s .now in
     let known : knownMajor s ≡ true = known-is s (in-known .before .before .before .word-at .ensures) (in-known .before .one-of .ensures) (in-known .if3 .taken) in
-    let creator : cstringAt s (wordAt s 24) ≡ At (in-found .found .given .0 .0) (in-found .found .given .0 .1 .0) = creator-is s (in-found .before .before .before .word-at2 .ensures) (in-found .before .before .cstring-at .ensures .0) (in-found .found .given .1) in
+    let creator : cstringAt s (wordAt s 24) ≡ At (in-found .found .given .0 .0) (in-found .found .given .0 .1 .0) =
+    creator-is s (in-found .before .before .before .word-at2 .ensures) (in-found .before .before .cstring-at .ensures .0) (in-found .found .given .1) in
     let five : eqb (majorAt s) 5 ≡ true = major5-is s (in-known .before .before .before .word-at .ensures) (in-known .before .before .same .ensures) (c .before .before .before .before .if4 .taken) in
     let wide : c .before .same2 .result ≡ eqb (wordAt s 40) 40 = c .before .same2 .ensures ∙ ap (λ (x : ℕ). eqb x 40) (c .before .before .word-at3 .ensures) in
-    let none : rd11Fault s ≡ 0 = omega (arith, c .before .before .before .rd11-fault .ensures, c .if5 .left) in
-    (in-known .before .before .before .before .if2 .left, (wide-major5 s _ wide, valid-major5 s (in-known .before .before .before .before .before .if1 .left) (in-known .before .before .before .before .if2 .left) known _ _ creator five none))
+    let none : rd11Fault s ≡ 0 = omega (arith, c .before .before .before .rd11-fault .ensures, c .if5 .left) in (
+      in-known .before .before .before .before .if2 .left,
+      (
+        wide-major5 s _ wide,
+        valid-major5 s (in-known .before .before .before .before .before .if1 .left) (in-known .before .before .before .before .if2 .left) known _ _ creator five none,
+      ),
+    )
 
 returns-6 : tie.Need-returns-6
 returns-6 c =
@@ -105,9 +116,15 @@ returns-6 c =
     let entry = in-known .before .before .before .before .before .before .before in
     let s = entry .args .s .now in
     let known : knownMajor s ≡ true = known-is s (in-known .before .before .before .word-at .ensures) (in-known .before .one-of .ensures) (in-known .if3 .taken) in
-    let creator : cstringAt s (wordAt s 24) ≡ At (in-found .found .given .0 .0) (in-found .found .given .0 .1 .0) = creator-is s (in-found .before .before .before .word-at2 .ensures) (in-found .before .before .cstring-at .ensures .0) (in-found .found .given .1) in
-    let four : eqb (majorAt s) 5 ≡ false = major5-is s (in-known .before .before .before .word-at .ensures) (in-known .before .before .same .ensures) (c .if4 .left) in
-    (in-known .before .before .before .before .if2 .left, (wide-major4 s, valid-major4 s (in-known .before .before .before .before .before .if1 .left) (in-known .before .before .before .before .if2 .left) known _ _ creator four))
+    let creator : cstringAt s (wordAt s 24) ≡ At (in-found .found .given .0 .0) (in-found .found .given .0 .1 .0) =
+    creator-is s (in-found .before .before .before .word-at2 .ensures) (in-found .before .before .cstring-at .ensures .0) (in-found .found .given .1) in
+    let four : eqb (majorAt s) 5 ≡ false = major5-is s (in-known .before .before .before .word-at .ensures) (in-known .before .before .same .ensures) (c .if4 .left) in (
+      in-known .before .before .before .before .if2 .left,
+      (
+        wide-major4 s,
+        valid-major4 s (in-known .before .before .before .before .before .if1 .left) (in-known .before .before .before .before .if2 .left) known _ _ creator four,
+      ),
+    )
 
 returns-7 : tie.Need-returns-7
 returns-7 c =

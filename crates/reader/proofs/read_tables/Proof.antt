@@ -34,9 +34,10 @@ word-at-requires-2 c κs = search needs
 
 walk-bindings-requires : tie.Need-walk-bindings-requires
 walk-bindings-requires c κs =
-    let in-valid = c .before .before .before .before .before .before .before in
+    let in-room = c .before .before .before in
+    let in-valid = in-room .before .before .before .before in
     let entry = in-valid .before .before .before .before .before .before .before .before .before in
-    record { chunk = chunk-fits (entry .args .chunk .now) (in-valid .before .header2 .given .1) (in-valid .before .before .before .read-header .ensures); fits = omega (arith, c .before .before .before .before .before .before .least .ensures) }
+    record { chunk = chunk-fits (entry .args .chunk .now) (in-valid .before .header2 .given .1) (in-valid .before .before .before .read-header .ensures); fits = omega (arith, in-room .before .before .before .least .ensures) }
 
 enum-known-walked : tie.Need-enum-known-walked
 enum-known-walked c = search needs
@@ -56,14 +57,15 @@ slice-aggregate-walk-buffers c = search needs
 walk-buffers-requires : tie.Need-walk-buffers-requires
 walk-buffers-requires c κs =
     let bindings-walked = c .before .before .before .before .before .before .before .before .before .before .before in
-    let in-valid = bindings-walked .before .before .before .before .before .before .before .before in
+    let in-room = bindings-walked .before .before .before .before in
+    let in-valid = in-room .before .before .before .before in
     let entry = in-valid .before .before .before .before .before .before .before .before .before in
     record {
       chunk = chunk-fits (entry .args .chunk .now) (in-valid .before .header2 .given .1) (in-valid .before .before .before .read-header .ensures);
       path-is = search needs;
-      buffers-fit = omega (arith, bindings-walked .before .before .before .before .before .before .least2 .ensures);
-      variables-fit = omega (arith, bindings-walked .before .before .before .before .before .least3 .ensures);
-      types-fit = omega (arith, bindings-walked .before .before .before .before .least4 .ensures);
+      buffers-fit = omega (arith, in-room .before .before .least2 .ensures);
+      variables-fit = omega (arith, in-room .before .least3 .ensures);
+      types-fit = omega (arith, in-room .least4 .ensures);
     }
 
 enum-known-filled : tie.Need-enum-known-filled
@@ -91,25 +93,33 @@ cast-t49 : tie.Need-cast-t49
 cast-t49 c =
     let buffers-walked = c .before .before .before .before .before .before .before .before .before .before .before .before .before .before .before in
     let bindings-walked = buffers-walked .before .before .before .before .before .before .before .before .before .before .before .before in
-    record { fits = omega (arith, bindings-within (bindings-walked .walk-bindings .ensures) (buffers-walked .before .before .before .before .before .before .before .before .walked2 .given .1), bindings-walked .before .before .before .before .before .before .before .least .ensures) }
+    let in-room = bindings-walked .before .before .before .before in
+    let within = bindings-within (bindings-walked .walk-bindings .ensures) (buffers-walked .before .before .before .before .before .before .before .before .walked2 .given .1) in
+    record { fits = omega (arith, within, in-room .before .before .before .least .ensures) }
 
 cast-t50 : tie.Need-cast-t50
 cast-t50 c =
     let buffers-walked = c .before .before .before .before .before .before .before .before .before .before .before .before .before .before .before in
     let bindings-walked = buffers-walked .before .before .before .before .before .before .before .before .before .before .before .before in
-    record { fits = omega (arith, buffers-within (buffers-walked .walk-buffers .ensures) (c .before .before .before .before .before .before .filled2 .given .1) .0, bindings-walked .before .before .before .before .before .before .least2 .ensures) }
+    let in-room = bindings-walked .before .before .before .before in
+    let within = buffers-within (buffers-walked .walk-buffers .ensures) (c .before .before .before .before .before .before .filled2 .given .1) in
+    record { fits = omega (arith, within .0, within .1 .0, within .1 .1, in-room .before .before .least2 .ensures, in-room .before .least3 .ensures, in-room .least4 .ensures) }
 
 cast-t51 : tie.Need-cast-t51
 cast-t51 c =
     let buffers-walked = c .before .before .before .before .before .before .before .before .before .before .before .before .before .before .before in
     let bindings-walked = buffers-walked .before .before .before .before .before .before .before .before .before .before .before .before in
-    record { fits = omega (arith, buffers-within (buffers-walked .walk-buffers .ensures) (c .before .before .before .before .before .before .filled2 .given .1) .1 .0, bindings-walked .before .before .before .before .before .least3 .ensures) }
+    let in-room = bindings-walked .before .before .before .before in
+    let within = buffers-within (buffers-walked .walk-buffers .ensures) (c .before .before .before .before .before .before .filled2 .given .1) in
+    record { fits = omega (arith, within .0, within .1 .0, within .1 .1, in-room .before .before .least2 .ensures, in-room .before .least3 .ensures, in-room .least4 .ensures) }
 
 cast-t52 : tie.Need-cast-t52
 cast-t52 c =
     let buffers-walked = c .before .before .before .before .before .before .before .before .before .before .before .before .before .before .before in
     let bindings-walked = buffers-walked .before .before .before .before .before .before .before .before .before .before .before .before in
-    record { fits = omega (arith, buffers-within (buffers-walked .walk-buffers .ensures) (c .before .before .before .before .before .before .filled2 .given .1) .1 .1, bindings-walked .before .before .before .before .least4 .ensures) }
+    let in-room = bindings-walked .before .before .before .before in
+    let within = buffers-within (buffers-walked .walk-buffers .ensures) (c .before .before .before .before .before .before .filled2 .given .1) in
+    record { fits = omega (arith, within .0, within .1 .0, within .1 .1, in-room .before .before .least2 .ensures, in-room .before .least3 .ensures, in-room .least4 .ensures) }
 
 returns : tie.Need-returns
 returns c = header-refused (c .before .before .before .before .before .before .before .before .before .args .chunk .now) (c .before .header .given .0 .0) (c .before .header .given .1) (c .before .before .before .read-header .ensures)
@@ -120,13 +130,14 @@ same-length c = search needs
 returns-2 : tie.Need-returns-2
 returns-2 c =
     let bindings-walked = c .before .before .before .before .before in
-    let in-valid = bindings-walked .before .before .before .before .before .before .before .before in
+    let in-room = bindings-walked .before .before .before .before in
+    let in-valid = in-room .before .before .before .before in
     let entry = in-valid .before .before .before .before .before .before .before .before .before in
     let capacities : Capacities (entry .args .bindings .now) (entry .args .buffers .now) (entry .args .variables .now) (entry .args .types .now) _ _ _ _ = record {
-      bindings = bindings-walked .before .before .before .before .before .before .before .least .ensures;
-      buffers = bindings-walked .before .before .before .before .before .before .least2 .ensures;
-      variables = bindings-walked .before .before .before .before .before .least3 .ensures;
-      types = bindings-walked .before .before .before .before .least4 .ensures;
+      bindings = in-room .before .before .before .least .ensures;
+      buffers = in-room .before .before .least2 .ensures;
+      variables = in-room .before .least3 .ensures;
+      types = in-room .least4 .ensures;
     } in
     bindings-refused (entry .args .chunk .now) capacities (in-valid .before .header2 .given .1) (in-valid .before .before .before .read-header .ensures)
     (bindings-walked .before .before .before .word-at .ensures) (bindings-walked .before .before .word-at2 .ensures) (bindings-walked .walk-bindings .ensures)
@@ -148,16 +159,18 @@ returns-3 : tie.Need-returns-3
 returns-3 c =
     let buffers-walked = c .before .before .before .before .before .before .before .before .before .before in
     let bindings-walked = buffers-walked .before .before .before .before .before .before .before .before .before .before .before .before in
-    let in-valid = bindings-walked .before .before .before .before .before .before .before .before in
+    let in-room = bindings-walked .before .before .before .before in
+    let in-valid = in-room .before .before .before .before in
     let entry = in-valid .before .before .before .before .before .before .before .before .before in
     let capacities : Capacities (entry .args .bindings .now) (entry .args .buffers .now) (entry .args .variables .now) (entry .args .types .now) _ _ _ _ = record {
-      bindings = bindings-walked .before .before .before .before .before .before .before .least .ensures;
-      buffers = bindings-walked .before .before .before .before .before .before .least2 .ensures;
-      variables = bindings-walked .before .before .before .before .before .least3 .ensures;
-      types = bindings-walked .before .before .before .before .least4 .ensures;
+      bindings = in-room .before .before .before .least .ensures;
+      buffers = in-room .before .before .least2 .ensures;
+      variables = in-room .before .least3 .ensures;
+      types = in-room .least4 .ensures;
     } in
     buffers-refused (entry .args .chunk .now) capacities (in-valid .before .header2 .given .1) (in-valid .before .before .before .read-header .ensures)
-    (bindings-walked .before .before .before .word-at .ensures) (bindings-walked .before .before .word-at2 .ensures) (bindings-walked .walk-bindings .ensures) (buffers-walked .before .before .before .before .before .before .before .before .walked2 .given .1)
+    (bindings-walked .before .before .before .word-at .ensures) (bindings-walked .before .before .word-at2 .ensures) (bindings-walked .walk-bindings .ensures)
+    (buffers-walked .before .before .before .before .before .before .before .before .walked2 .given .1)
     (buffers-walked .before .before .before .before .before .before .word-at3 .ensures) (buffers-walked .before .before .before .before .before .word-at4 .ensures) (buffers-walked .walk-buffers .ensures)
     (c .before .filled .given .0 .0) (c .before .filled .given .1)
 
@@ -177,17 +190,20 @@ returns-4 : tie.Need-returns-4
 returns-4 c =
     let buffers-walked = c .before .before .before .before .before .before .before .before .before .before .before .before .before .before .before in
     let bindings-walked = buffers-walked .before .before .before .before .before .before .before .before .before .before .before .before in
-    let in-valid = bindings-walked .before .before .before .before .before .before .before .before in
+    let in-room = bindings-walked .before .before .before .before in
+    let in-valid = in-room .before .before .before .before in
     let entry = in-valid .before .before .before .before .before .before .before .before .before in
     let capacities : Capacities (entry .args .bindings .now) (entry .args .buffers .now) (entry .args .variables .now) (entry .args .types .now) _ _ _ _ = record {
-      bindings = bindings-walked .before .before .before .before .before .before .before .least .ensures;
-      buffers = bindings-walked .before .before .before .before .before .before .least2 .ensures;
-      variables = bindings-walked .before .before .before .before .before .least3 .ensures;
-      types = bindings-walked .before .before .before .before .least4 .ensures;
+      bindings = in-room .before .before .before .least .ensures;
+      buffers = in-room .before .before .least2 .ensures;
+      variables = in-room .before .least3 .ensures;
+      types = in-room .least4 .ensures;
     } in
     tables-filled (entry .args .chunk .now) capacities (in-valid .before .header2 .given .1) (in-valid .before .before .before .read-header .ensures)
-    (bindings-walked .before .before .before .word-at .ensures) (bindings-walked .before .before .word-at2 .ensures) (bindings-walked .walk-bindings .ensures) (buffers-walked .before .before .before .before .before .before .before .before .walked2 .given .1)
-    (buffers-walked .before .before .before .before .before .before .word-at3 .ensures) (buffers-walked .before .before .before .before .before .word-at4 .ensures) (buffers-walked .walk-buffers .ensures) (c .before .before .before .before .before .before .filled2 .given .1)
+    (bindings-walked .before .before .before .word-at .ensures) (bindings-walked .before .before .word-at2 .ensures) (bindings-walked .walk-bindings .ensures)
+    (buffers-walked .before .before .before .before .before .before .before .before .walked2 .given .1)
+    (buffers-walked .before .before .before .before .before .before .word-at3 .ensures) (buffers-walked .before .before .before .before .before .word-at4 .ensures) (buffers-walked .walk-buffers .ensures)
+    (c .before .before .before .before .before .before .filled2 .given .1)
     (bindings-walked .walk-bindings .kept .1 .1 .1 .1 .1 .0) (buffers-walked .walk-buffers .kept .1 .1 .1 .1 .1 .1 .1 .0) (buffers-walked .walk-buffers .kept .1 .1 .1 .1 .1 .1 .1 .1 .0) (buffers-walked .walk-buffers .kept .1 .1 .1 .1 .1 .1 .1 .1 .1 .0)
     (c .before .before .before .before .word-at5 .ensures) (c .before .before .before .word-at6 .ensures) (c .before .before .word-if .ensures) (c .before .word-if2 .ensures) (c .word-if3 .ensures)
 

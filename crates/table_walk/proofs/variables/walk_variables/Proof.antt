@@ -1,22 +1,22 @@
 -- `walk_variables` meets its contract. The invariant: what is left to read decides the outcome. Each way out, and each turn, is one law of VariablesLoop.
 use borrow.Author.Needs.{needs}
+use borrow.Author.Tests.{not-true, not-false}
 use mathlib.Core.Path.{sym, subst, _∙_}
 use native.Mathlib.Omega.{arith}
 use lib.ListN.{length}
-use Rattle.words.proofs.Parts.{inside-fits}
-use Rattle.text.specs.declared.Found.the-variants.{At}
 use Rattle.text.specs.Strings.{Within}
 use Rattle.type_walk.specs.Walk.{turnedOnto}
+use Rattle.table_walk.proofs.Range.{record-ends}
 use Rattle.table_walk.proofs.VariablesLoop.{VariablesLeft, all-left, type-ready, ends, ends-full, ends-short, ends-default-outside, ends-named-badly, ends-below, goes-on}
 use Rattle.table_walk.proofs.variables.walk_variables.Statement.{statement}
 use Rattle.table_walk.proofs.variables.walk_variables.Tie as tie
 
 abbrev Inv-loop : tie.InvT-loop
-Inv-loop s first count sm5 vcap tcap variables₀ types₀ path₀ v n stride next₀ node₀ at₀ left₀ variables types path next node at left =
+Inv-loop s first count sm5 vcap tcap variables₀ types₀ path₀ v n stride root next₀ node₀ at₀ left₀ variables types path next node at left =
     VariablesLeft s sm5 first count vcap tcap v n variables₀ types₀ path₀ variables types path next node at left
 
 abbrev μ-loop : tie.MeasureT-loop
-μ-loop s first count sm5 vcap tcap variables₀ types₀ path₀ v n stride next₀ node₀ at₀ left₀ variables types path next node at left = left
+μ-loop s first count sm5 vcap tcap variables₀ types₀ path₀ v n stride root next₀ node₀ at₀ left₀ variables types path next node at left = left
 
 variable-stride-requires : tie.Need-variable-stride-requires Inv-loop μ-loop
 variable-stride-requires c κs = search needs
@@ -37,72 +37,60 @@ same-length-3 c = c .before .before .loop .inv .long-path
 
 returns : tie.Need-returns Inv-loop μ-loop
 returns c =
-    let at-loop-test = c .before in
-    let at-loop = at-loop-test .before in
-    let start = at-loop .before .before .before .before .before .before in
+    let at-loop-test = c .before in let at-loop = at-loop-test .before in let start = at-loop .before .before .before .before .before .before in
     ends-full (start .pre) (at-loop .loop .inv) (at-loop-test .loop-test .taken) (c .if1 .taken)
 
 inside-requires : tie.Need-inside-requires Inv-loop μ-loop
 inside-requires c κs = search needs
 
-add-word-at : tie.Need-add-word-at Inv-loop μ-loop
-add-word-at c =
-    let at-inside = c .before in
-    let at-loop = at-inside .before .before .before in
-    let at-variable-stride = at-loop .before in
-    let start = at-variable-stride .before .before .before .before .before in
-    omega (arith, inside-fits (length (start .args .s .now)) (at-loop .loop .at) (at-variable-stride .variable-stride .result) (sym (at-inside .inside .ensures) ∙ c .if2 .taken), start .pre .chunk)
-
-word-at-requires : tie.Need-word-at-requires Inv-loop μ-loop
-word-at-requires c κs = search needs
-
-add-word-at-2 : tie.Need-add-word-at-2 Inv-loop μ-loop
-add-word-at-2 c =
-    let at-if2 = c .before in
-    let at-inside = at-if2 .before in
-    let at-loop = at-inside .before .before .before in
-    let at-variable-stride = at-loop .before in
-    let start = at-variable-stride .before .before .before .before .before in
-    omega (arith, inside-fits (length (start .args .s .now)) (at-loop .loop .at) (at-variable-stride .variable-stride .result) (sym (at-inside .inside .ensures) ∙ at-if2 .if2 .taken), start .pre .chunk)
-
-word-at-requires-2 : tie.Need-word-at-requires-2 Inv-loop μ-loop
-word-at-requires-2 c κs = search needs
-
-default-at-requires : tie.Need-default-at-requires Inv-loop μ-loop
-default-at-requires c κs = search needs
-
-enum-told : tie.Need-enum-told Inv-loop μ-loop
-enum-told c = search needs
-
 same-length-4 : tie.Need-same-length-4 Inv-loop μ-loop
-same-length-4 c = c .before .before .before .before .before .before .before .before .before .loop .inv .long
+same-length-4 c = c .before .before .before .before .loop .inv .long
 
 same-length-5 : tie.Need-same-length-5 Inv-loop μ-loop
-same-length-5 c = c .before .before .before .before .before .before .before .before .before .loop .inv .long-types
+same-length-5 c = c .before .before .before .before .loop .inv .long-types
 
 same-length-6 : tie.Need-same-length-6 Inv-loop μ-loop
-same-length-6 c = c .before .before .before .before .before .before .before .before .before .loop .inv .long-path
+same-length-6 c = c .before .before .before .before .loop .inv .long-path
 
 returns-2 : tie.Need-returns-2 Inv-loop μ-loop
 returns-2 c =
-    let at-default-at = c .before .before in
-    let at-word-at2 = at-default-at .before in
-    let at-word-at = at-word-at2 .before in
-    let at-if2 = at-word-at .before in
-    let at-inside = at-if2 .before in
-    let at-if1 = at-inside .before in
-    let at-loop-test = at-if1 .before in
-    let at-loop = at-loop-test .before in
-    let at-variable-stride = at-loop .before in
+    let at-inside = c .before in let at-if1 = at-inside .before in let at-loop-test = at-if1 .before in let at-loop = at-loop-test .before in
+    let at-variable-stride = at-loop .before in let start = at-variable-stride .before .before .before .before .before in
+    ends-short (start .pre) (at-loop .loop .inv) (at-loop-test .loop-test .taken) (at-if1 .if1 .left)
+    (cc (at-inside .inside .ensures, at-variable-stride .variable-stride .ensures .0, not-true (at-inside .inside .result) (c .if2 .taken)))
+
+default-of-requires : tie.Need-default-of-requires Inv-loop μ-loop
+default-of-requires c κs =
+    let at-inside = c .before in let at-loop = at-inside .before .before .before in let at-variable-stride = at-loop .before in
     let start = at-variable-stride .before .before .before .before .before in
-    ends-default-outside (start .pre) (at-loop .loop .inv) (at-loop-test .loop-test .taken) (at-if1 .if1 .left) (cc (at-inside .inside .ensures, at-variable-stride .variable-stride .ensures .0, at-if2 .if2 .taken))
-    (cc (at-default-at .default-at .ensures .0, at-word-at .word-at .ensures, at-word-at2 .word-at2 .ensures, c .enum-told .given .1))
+    omega (arith, record-ends (start .args .s .now) (at-loop .loop .at) (at-variable-stride .variable-stride .result) (start .pre .chunk) (at-inside .inside .result) (at-inside .inside .ensures) (c .if2 .left))
 
 enum-known-default : tie.Need-enum-known-default Inv-loop μ-loop
 enum-known-default c = search needs
 
-word-at-requires-3 : tie.Need-word-at-requires-3 Inv-loop μ-loop
-word-at-requires-3 c κs = search needs
+enum-told : tie.Need-enum-told Inv-loop μ-loop
+enum-told c = search needs
+
+same-length-7 : tie.Need-same-length-7 Inv-loop μ-loop
+same-length-7 c = c .before .before .before .before .before .before .before .loop .inv .long
+
+same-length-8 : tie.Need-same-length-8 Inv-loop μ-loop
+same-length-8 c = c .before .before .before .before .before .before .before .loop .inv .long-types
+
+same-length-9 : tie.Need-same-length-9 Inv-loop μ-loop
+same-length-9 c = c .before .before .before .before .before .before .before .loop .inv .long-path
+
+returns-3 : tie.Need-returns-3 Inv-loop μ-loop
+returns-3 c =
+    let at-default-of = c .before .before in let at-if2 = at-default-of .before in let at-inside = at-if2 .before in let at-if1 = at-inside .before in
+    let at-loop-test = at-if1 .before in let at-loop = at-loop-test .before in let at-variable-stride = at-loop .before in
+    let start = at-variable-stride .before .before .before .before .before in
+    ends-default-outside (start .pre) (at-loop .loop .inv) (at-loop-test .loop-test .taken) (at-if1 .if1 .left)
+    (cc (at-inside .inside .ensures, at-variable-stride .variable-stride .ensures .0, not-false (at-inside .inside .result) (at-if2 .if2 .left)))
+    (sym (at-default-of .default-of .ensures .0) ∙ c .enum-told .given .1)
+
+word-at-requires : tie.Need-word-at-requires Inv-loop μ-loop
+word-at-requires c κs = search needs
 
 cast-cstring-at : tie.Need-cast-cstring-at Inv-loop μ-loop
 cast-cstring-at c = search needs
@@ -110,99 +98,63 @@ cast-cstring-at c = search needs
 cstring-at-requires : tie.Need-cstring-at-requires Inv-loop μ-loop
 cstring-at-requires c κs = search needs
 
-enum-told-2 : tie.Need-enum-told-2 Inv-loop μ-loop
-enum-told-2 c = search needs
-
-same-length-7 : tie.Need-same-length-7 Inv-loop μ-loop
-same-length-7 c = c .before .before .before .before .before .before .before .before .before .before .before .before .before .before .loop .inv .long
-
-same-length-8 : tie.Need-same-length-8 Inv-loop μ-loop
-same-length-8 c = c .before .before .before .before .before .before .before .before .before .before .before .before .before .before .loop .inv .long-types
-
-same-length-9 : tie.Need-same-length-9 Inv-loop μ-loop
-same-length-9 c = c .before .before .before .before .before .before .before .before .before .before .before .before .before .before .loop .inv .long-path
-
-returns-3 : tie.Need-returns-3 Inv-loop μ-loop
-returns-3 c =
-    let at-cstring-at = c .before .before in
-    let at-word-at3 = at-cstring-at .before in
-    let at-default = at-word-at3 .before .before in
-    let at-default-at = at-default .before .before in
-    let at-word-at2 = at-default-at .before in
-    let at-word-at = at-word-at2 .before in
-    let at-if2 = at-word-at .before in
-    let at-inside = at-if2 .before in
-    let at-if1 = at-inside .before in
-    let at-loop-test = at-if1 .before in
-    let at-loop = at-loop-test .before in
-    let at-variable-stride = at-loop .before in
-    let start = at-variable-stride .before .before .before .before .before in
-    ends-named-badly (start .pre) (at-loop .loop .inv) (at-loop-test .loop-test .taken) (at-if1 .if1 .left) (cc (at-inside .inside .ensures, at-variable-stride .variable-stride .ensures .0, at-if2 .if2 .taken))
-    {dplace = at-default .default .given .0 .0} {dlength = at-default .default .given .0 .1 .0} (cc (at-default-at .default-at .ensures .0, at-word-at .word-at .ensures, at-word-at2 .word-at2 .ensures, at-default .default .given .1))
-    (cc (at-cstring-at .cstring-at .ensures .0, at-word-at3 .word-at3 .ensures, c .enum-told2 .given .1))
-
 enum-known-found : tie.Need-enum-known-found Inv-loop μ-loop
 enum-known-found c = search needs
 
-cast-t40 : tie.Need-cast-t40 Inv-loop μ-loop
-cast-t40 c =
-    let at-found = c .before in
-    let at-cstring-at = at-found .before .before in
-    let start = at-cstring-at .before .before .before .before .before .before .before .before .before .before .before .before .before .before .before .before .before .before in
-    let found-within : Within (length (start .args .s .now)) (At (at-found .found .given .0 .0) (at-found .found .given .0 .1 .0)) =
-    subst (Within (length (start .args .s .now))) (at-found .found .given .1) (at-cstring-at .cstring-at .ensures .1) in
-    omega (arith, found-within, start .pre .chunk)
+enum-told-2 : tie.Need-enum-told-2 Inv-loop μ-loop
+enum-told-2 c = search needs
 
-cast-t41 : tie.Need-cast-t41 Inv-loop μ-loop
-cast-t41 c =
-    let at-found = c .before in
-    let at-cstring-at = at-found .before .before in
-    let start = at-cstring-at .before .before .before .before .before .before .before .before .before .before .before .before .before .before .before .before .before .before in
-    let found-within : Within (length (start .args .s .now)) (At (at-found .found .given .0 .0) (at-found .found .given .0 .1 .0)) =
-    subst (Within (length (start .args .s .now))) (at-found .found .given .1) (at-cstring-at .cstring-at .ensures .1) in
-    omega (arith, found-within, start .pre .chunk)
+same-length-10 : tie.Need-same-length-10 Inv-loop μ-loop
+same-length-10 c = c .before .before .before .before .before .before .before .before .before .before .before .before .loop .inv .long
 
-cast-t43 : tie.Need-cast-t43 Inv-loop μ-loop
-cast-t43 c =
-    let at-default = c .before .before .before .before .before .before in
-    let at-default-at = at-default .before .before in
-    let start = at-default-at .before .before .before .before .before .before .before .before .before .before .before .before .before in
-    let found-within : Within (length (start .args .s .now)) (At (at-default .default .given .0 .0) (at-default .default .given .0 .1 .0)) =
-    subst (Within (length (start .args .s .now))) (at-default .default .given .1) (at-default-at .default-at .ensures .1) in
-    omega (arith, found-within, start .pre .chunk)
+same-length-11 : tie.Need-same-length-11 Inv-loop μ-loop
+same-length-11 c = c .before .before .before .before .before .before .before .before .before .before .before .before .loop .inv .long-types
 
-cast-t44 : tie.Need-cast-t44 Inv-loop μ-loop
-cast-t44 c =
-    let at-default = c .before .before .before .before .before .before in
-    let at-default-at = at-default .before .before in
-    let start = at-default-at .before .before .before .before .before .before .before .before .before .before .before .before .before in
-    let found-within : Within (length (start .args .s .now)) (At (at-default .default .given .0 .0) (at-default .default .given .0 .1 .0)) =
-    subst (Within (length (start .args .s .now))) (at-default .default .given .1) (at-default-at .default-at .ensures .1) in
-    omega (arith, found-within, start .pre .chunk)
+same-length-12 : tie.Need-same-length-12 Inv-loop μ-loop
+same-length-12 c = c .before .before .before .before .before .before .before .before .before .before .before .before .loop .inv .long-path
+
+returns-4 : tie.Need-returns-4 Inv-loop μ-loop
+returns-4 c =
+    let at-cstring-at = c .before .before in let at-word-at = at-cstring-at .before in let at-default = at-word-at .before .before in
+    let at-default-of = at-default .before .before in let at-if2 = at-default-of .before in let at-inside = at-if2 .before in let at-if1 = at-inside .before in
+    let at-loop-test = at-if1 .before in let at-loop = at-loop-test .before in let at-variable-stride = at-loop .before in
+    let start = at-variable-stride .before .before .before .before .before in
+    ends-named-badly (start .pre) (at-loop .loop .inv) (at-loop-test .loop-test .taken) (at-if1 .if1 .left)
+    (cc (at-inside .inside .ensures, at-variable-stride .variable-stride .ensures .0, not-false (at-inside .inside .result) (at-if2 .if2 .left)))
+    {dplace = at-default .default .given .0 .0} {dsize = at-default .default .given .0 .1 .0}
+    (sym (at-default-of .default-of .ensures .0) ∙ at-default .default .given .1)
+    (cc (at-cstring-at .cstring-at .ensures .0, at-word-at .word-at .ensures, c .enum-told2 .given .1))
+
+in-chunk-requires : tie.Need-in-chunk-requires Inv-loop μ-loop
+in-chunk-requires c κs =
+    let at-found = c .before in let at-cstring-at = at-found .before .before in
+    let start = at-cstring-at .before .before .before .before .before .before .before .before .before .before .before .before .before .before .before .before in
+    omega (arith, subst (Within (length (start .args .s .now))) (at-found .found .given .1) (at-cstring-at .cstring-at .ensures .1), start .pre .chunk)
+
+in-chunk-requires-2 : tie.Need-in-chunk-requires-2 Inv-loop μ-loop
+in-chunk-requires-2 c κs =
+    let at-default = c .before .before .before .before .before .before .before in let at-default-of = at-default .before .before in
+    let start = at-default-of .before .before .before .before .before .before .before .before .before .before .before in
+    omega (arith, subst (Within (length (start .args .s .now))) (at-default .default .given .1) (at-default-of .default-of .ensures .1), start .pre .chunk)
 
 variable-record-requires : tie.Need-variable-record-requires Inv-loop μ-loop
 variable-record-requires c κs =
-    let at-if2 = c .before .before .before .before .before .before .before .before .before .before .before in
-    let at-inside = at-if2 .before in
-    let at-loop = at-inside .before .before .before in
-    let at-variable-stride = at-loop .before in
-    let start = at-variable-stride .before .before .before .before .before in
-    omega (arith, inside-fits (length (start .args .s .now)) (at-loop .loop .at) (at-variable-stride .variable-stride .result) (sym (at-inside .inside .ensures) ∙ at-if2 .if2 .taken), start .pre .chunk)
+    let at-if2 = c .before .before .before .before .before .before .before .before .before .before .before in let at-inside = at-if2 .before in
+    let at-loop = at-inside .before .before .before in let at-variable-stride = at-loop .before in let start = at-variable-stride .before .before .before .before .before in
+    omega (arith, record-ends (start .args .s .now) (at-loop .loop .at) (at-variable-stride .variable-stride .result) (start .pre .chunk) (at-inside .inside .result) (at-inside .inside .ensures) (at-if2 .if2 .left))
 
 put-variable-requires : tie.Need-put-variable-requires Inv-loop μ-loop
 put-variable-requires c κs = search needs
 
-add-word-at-3 : tie.Need-add-word-at-3 Inv-loop μ-loop
-add-word-at-3 c =
+add-word-at : tie.Need-add-word-at Inv-loop μ-loop
+add-word-at c =
     let at-if2 = c .before .before .before .before .before .before .before .before .before .before .before .before .before .before .before .before in
-    let at-inside = at-if2 .before in
-    let at-loop = at-inside .before .before .before in
-    let at-variable-stride = at-loop .before in
+    let at-inside = at-if2 .before in let at-loop = at-inside .before .before .before in let at-variable-stride = at-loop .before in
     let start = at-variable-stride .before .before .before .before .before in
-    omega (arith, inside-fits (length (start .args .s .now)) (at-loop .loop .at) (at-variable-stride .variable-stride .result) (sym (at-inside .inside .ensures) ∙ at-if2 .if2 .taken), start .pre .chunk)
+    omega (arith, record-ends (start .args .s .now) (at-loop .loop .at) (at-variable-stride .variable-stride .result) (start .pre .chunk) (at-inside .inside .result) (at-inside .inside .ensures) (at-if2 .if2 .left))
 
-word-at-requires-4 : tie.Need-word-at-requires-4 Inv-loop μ-loop
-word-at-requires-4 c κs = search needs
+word-at-requires-2 : tie.Need-word-at-requires-2 Inv-loop μ-loop
+word-at-requires-2 c κs = search needs
 
 walk-type-requires : tie.Need-walk-type-requires Inv-loop μ-loop
 walk-type-requires c κs =
@@ -213,72 +165,42 @@ walk-type-requires c κs =
 enum-known-answer : tie.Need-enum-known-answer Inv-loop μ-loop
 enum-known-answer c = search needs
 
-same-length-10 : tie.Need-same-length-10 Inv-loop μ-loop
-same-length-10 c =
+same-length-13 : tie.Need-same-length-13 Inv-loop μ-loop
+same-length-13 c =
     let at-put-variable = c .before .before .before .before .before .before .before .before .before .before .before .before .before in
     let at-loop = at-put-variable .before .before .before .before .before .before .before .before .before .before .before .before .before .before .before .before .before .before in
     at-put-variable .put-variable .kept .0 ∙ at-loop .loop .inv .long
 
-same-length-11 : tie.Need-same-length-11 Inv-loop μ-loop
-same-length-11 c =
+same-length-14 : tie.Need-same-length-14 Inv-loop μ-loop
+same-length-14 c =
     let at-walk-type = c .before .before .before .before .before .before .before in
     let at-loop = at-walk-type .before .before .before .before .before .before .before .before .before .before .before .before .before .before .before .before .before .before .before .before .before .before .before .before in
     at-walk-type .walk-type .kept .1 .1 .1 .1 .1 .1 .0 ∙ at-loop .loop .inv .long-types
 
-same-length-12 : tie.Need-same-length-12 Inv-loop μ-loop
-same-length-12 c =
+same-length-15 : tie.Need-same-length-15 Inv-loop μ-loop
+same-length-15 c =
     let at-walk-type = c .before .before .before .before .before .before .before in
     let at-loop = at-walk-type .before .before .before .before .before .before .before .before .before .before .before .before .before .before .before .before .before .before .before .before .before .before .before .before in
     at-walk-type .walk-type .kept .1 .1 .1 .1 .1 .1 .1 .0 ∙ at-loop .loop .inv .long-path
 
-returns-4 : tie.Need-returns-4 Inv-loop μ-loop
+returns-5 : tie.Need-returns-5 Inv-loop μ-loop
 unfolding turnedOnto
-returns-4 c =
-    let at-answer = c .before in
-    let at-walk-type = at-answer .before .before .before .before .before .before in
-    let at-word-at4 = at-walk-type .before .before .before in
-    let at-put-variable = at-word-at4 .before .before .before in
-    let at-variable-record = at-put-variable .before .before in
-    let at-found = at-variable-record .before .before in
-    let at-cstring-at = at-found .before .before in
-    let at-word-at3 = at-cstring-at .before in
-    let at-default = at-word-at3 .before .before in
-    let at-default-at = at-default .before .before in
-    let at-word-at2 = at-default-at .before in
-    let at-word-at = at-word-at2 .before in
-    let at-if2 = at-word-at .before in
-    let at-inside = at-if2 .before in
-    let at-if1 = at-inside .before in
-    let at-loop-test = at-if1 .before in
-    let at-loop = at-loop-test .before in
-    let at-variable-stride = at-loop .before in
-    let start = at-variable-stride .before .before .before .before .before in
-    ends-below (start .pre) (at-loop .loop .inv) (at-loop-test .loop-test .taken) (at-if1 .if1 .left) (cc (at-inside .inside .ensures, at-variable-stride .variable-stride .ensures .0, at-if2 .if2 .taken))
-    (cc (at-default-at .default-at .ensures .0, at-word-at .word-at .ensures, at-word-at2 .word-at2 .ensures, at-default .default .given .1))
-    (cc (at-cstring-at .cstring-at .ensures .0, at-word-at3 .word-at3 .ensures, at-found .found .given .1))
-    (at-variable-record .variable-record .ensures) (at-put-variable .put-variable .ensures) (at-word-at4 .word-at4 .ensures) _ _ (at-answer .answer .given .0 .0) (at-answer .answer .given .1) (at-walk-type .walk-type .ensures)
+returns-5 c =
+    let at-answer = c .before in let at-walk-type = at-answer .before .before .before .before .before .before in let at-word-at2 = at-walk-type .before .before .before in
+    let at-put-variable = at-word-at2 .before .before .before in let at-variable-record = at-put-variable .before .before in let at-in-chunk2 = at-variable-record .before in
+    let at-in-chunk = at-in-chunk2 .before in let at-found = at-in-chunk .before .before in let at-cstring-at = at-found .before .before in
+    let at-word-at = at-cstring-at .before in let at-default = at-word-at .before .before in let at-default-of = at-default .before .before in
+    let at-if2 = at-default-of .before in let at-inside = at-if2 .before in let at-if1 = at-inside .before in let at-loop-test = at-if1 .before in
+    let at-loop = at-loop-test .before in let at-variable-stride = at-loop .before in let start = at-variable-stride .before .before .before .before .before in
+    ends-below (start .pre) (at-loop .loop .inv) (at-loop-test .loop-test .taken) (at-if1 .if1 .left)
+    (cc (at-inside .inside .ensures, at-variable-stride .variable-stride .ensures .0, not-false (at-inside .inside .result) (at-if2 .if2 .left)))
+    (sym (at-default-of .default-of .ensures .0) ∙ at-default .default .given .1)
+    (cc (at-cstring-at .cstring-at .ensures .0, at-word-at .word-at .ensures, at-found .found .given .1))
+    (at-in-chunk .in-chunk .ensures) (at-in-chunk2 .in-chunk2 .ensures) (at-variable-record .variable-record .ensures) (at-put-variable .put-variable .ensures) (at-word-at2 .word-at2 .ensures) _ _
+    (at-answer .answer .given .0 .0) (at-answer .answer .given .1) (at-walk-type .walk-type .ensures)
 
 enum-known-answer-2 : tie.Need-enum-known-answer-2 Inv-loop μ-loop
 enum-known-answer-2 c = search needs
-
-same-length-13 : tie.Need-same-length-13 Inv-loop μ-loop
-same-length-13 c = c .before .before .before .before .loop .inv .long
-
-same-length-14 : tie.Need-same-length-14 Inv-loop μ-loop
-same-length-14 c = c .before .before .before .before .loop .inv .long-types
-
-same-length-15 : tie.Need-same-length-15 Inv-loop μ-loop
-same-length-15 c = c .before .before .before .before .loop .inv .long-path
-
-returns-5 : tie.Need-returns-5 Inv-loop μ-loop
-returns-5 c =
-    let at-inside = c .before in
-    let at-if1 = at-inside .before in
-    let at-loop-test = at-if1 .before in
-    let at-loop = at-loop-test .before in
-    let at-variable-stride = at-loop .before in
-    let start = at-variable-stride .before .before .before .before .before in
-    ends-short (start .pre) (at-loop .loop .inv) (at-loop-test .loop-test .taken) (at-if1 .if1 .left) (cc (at-inside .inside .ensures, at-variable-stride .variable-stride .ensures .0, c .if2 .left))
 
 add-next : tie.Need-add-next Inv-loop μ-loop
 add-next c =
@@ -289,11 +211,9 @@ add-next c =
 add-at : tie.Need-add-at Inv-loop μ-loop
 add-at c =
     let at-if2 = c .before .before .before .before .before .before .before .before .before .before .before .before .before .before .before .before .before .before .before .before .before .before .before .before .before .before .before in
-    let at-inside = at-if2 .before in
-    let at-loop = at-inside .before .before .before in
-    let at-variable-stride = at-loop .before in
+    let at-inside = at-if2 .before in let at-loop = at-inside .before .before .before in let at-variable-stride = at-loop .before in
     let start = at-variable-stride .before .before .before .before .before in
-    omega (arith, inside-fits (length (start .args .s .now)) (at-loop .loop .at) (at-variable-stride .variable-stride .result) (sym (at-inside .inside .ensures) ∙ at-if2 .if2 .taken), start .pre .chunk)
+    omega (arith, record-ends (start .args .s .now) (at-loop .loop .at) (at-variable-stride .variable-stride .result) (start .pre .chunk) (at-inside .inside .result) (at-inside .inside .ensures) (at-if2 .if2 .left))
 
 sub-left : tie.Need-sub-left Inv-loop μ-loop
 sub-left c = omega (arith, c .before .before .before .before .before .before .before .before .before .before .before .before .before .before .before .before .before .before .before .before .before .before .before .before .before .before .before .before .before .before .loop-test .taken)
@@ -304,30 +224,20 @@ loop-less c = omega (arith, c .before .before .before .before .before .before .b
 loop-again : tie.Need-loop-again Inv-loop μ-loop
 unfolding turnedOnto
 loop-again c =
-    let at-answer2 = c .before in
-    let at-walk-type = at-answer2 .before .before .before .before .before .before in
-    let at-word-at4 = at-walk-type .before .before .before in
-    let at-put-variable = at-word-at4 .before .before .before in
-    let at-variable-record = at-put-variable .before .before in
-    let at-found = at-variable-record .before .before in
-    let at-cstring-at = at-found .before .before in
-    let at-word-at3 = at-cstring-at .before in
-    let at-default = at-word-at3 .before .before in
-    let at-default-at = at-default .before .before in
-    let at-word-at2 = at-default-at .before in
-    let at-word-at = at-word-at2 .before in
-    let at-if2 = at-word-at .before in
-    let at-inside = at-if2 .before in
-    let at-if1 = at-inside .before in
-    let at-loop-test = at-if1 .before in
-    let at-loop = at-loop-test .before in
-    let at-variable-stride = at-loop .before in
-    let start = at-variable-stride .before .before .before .before .before in
-    goes-on (start .pre) (at-loop .loop .inv) (at-loop-test .loop-test .taken) (at-if1 .if1 .left) (cc (at-inside .inside .ensures, at-variable-stride .variable-stride .ensures .0, at-if2 .if2 .taken))
-    (cc (at-default-at .default-at .ensures .0, at-word-at .word-at .ensures, at-word-at2 .word-at2 .ensures, at-default .default .given .1))
-    (cc (at-cstring-at .cstring-at .ensures .0, at-word-at3 .word-at3 .ensures, at-found .found .given .1))
-    (at-variable-record .variable-record .ensures) (at-put-variable .put-variable .ensures) (at-word-at4 .word-at4 .ensures) _ _ (at-answer2 .answer2 .given .0 .0) (at-answer2 .answer2 .given .1) (at-walk-type .walk-type .ensures)
-    (at-variable-stride .variable-stride .result) (at-variable-stride .variable-stride .ensures .0) (at-put-variable .put-variable .kept .0) (at-walk-type .walk-type .kept .1 .1 .1 .1 .1 .1 .0) (at-walk-type .walk-type .kept .1 .1 .1 .1 .1 .1 .1 .0)
+    let at-answer2 = c .before in let at-walk-type = at-answer2 .before .before .before .before .before .before in let at-word-at2 = at-walk-type .before .before .before in
+    let at-put-variable = at-word-at2 .before .before .before in let at-variable-record = at-put-variable .before .before in let at-in-chunk2 = at-variable-record .before in
+    let at-in-chunk = at-in-chunk2 .before in let at-found = at-in-chunk .before .before in let at-cstring-at = at-found .before .before in
+    let at-word-at = at-cstring-at .before in let at-default = at-word-at .before .before in let at-default-of = at-default .before .before in
+    let at-if2 = at-default-of .before in let at-inside = at-if2 .before in let at-if1 = at-inside .before in let at-loop-test = at-if1 .before in
+    let at-loop = at-loop-test .before in let at-variable-stride = at-loop .before in let start = at-variable-stride .before .before .before .before .before in
+    goes-on (start .pre) (at-loop .loop .inv) (at-loop-test .loop-test .taken) (at-if1 .if1 .left)
+    (cc (at-inside .inside .ensures, at-variable-stride .variable-stride .ensures .0, not-false (at-inside .inside .result) (at-if2 .if2 .left)))
+    (sym (at-default-of .default-of .ensures .0) ∙ at-default .default .given .1)
+    (cc (at-cstring-at .cstring-at .ensures .0, at-word-at .word-at .ensures, at-found .found .given .1))
+    (at-in-chunk .in-chunk .ensures) (at-in-chunk2 .in-chunk2 .ensures) (at-variable-record .variable-record .ensures) (at-put-variable .put-variable .ensures) (at-word-at2 .word-at2 .ensures) _ _
+    (at-answer2 .answer2 .given .0 .0) (at-answer2 .answer2 .given .1) (at-walk-type .walk-type .ensures)
+    (at-variable-stride .variable-stride .result) (at-variable-stride .variable-stride .ensures .0) (at-put-variable .put-variable .kept .0)
+    (at-walk-type .walk-type .kept .1 .1 .1 .1 .1 .1 .0) (at-walk-type .walk-type .kept .1 .1 .1 .1 .1 .1 .1 .0)
 
 same-length-16 : tie.Need-same-length-16 Inv-loop μ-loop
 same-length-16 c = c .before .loop .inv .long
@@ -340,8 +250,7 @@ same-length-18 c = c .before .loop .inv .long-path
 
 returns-6 : tie.Need-returns-6 Inv-loop μ-loop
 returns-6 c =
-    let at-loop = c .before in
-    let start = at-loop .before .before .before .before .before .before in
+    let at-loop = c .before in let start = at-loop .before .before .before .before .before .before in
     ends (start .pre) (at-loop .loop .inv) (c .loop-test .left)
 
 pub walk-variables-spec : {M : Type 1} → statement M
@@ -357,45 +266,39 @@ walk-variables-spec =
     same-length-3
     returns
     inside-requires
-    add-word-at
-    word-at-requires
-    add-word-at-2
-    word-at-requires-2
-    default-at-requires
-    enum-told
     same-length-4
     same-length-5
     same-length-6
     returns-2
+    default-of-requires
     enum-known-default
-    word-at-requires-3
-    cast-cstring-at
-    cstring-at-requires
-    enum-told-2
+    enum-told
     same-length-7
     same-length-8
     same-length-9
     returns-3
+    word-at-requires
+    cast-cstring-at
+    cstring-at-requires
     enum-known-found
-    cast-t40
-    cast-t41
-    cast-t43
-    cast-t44
-    variable-record-requires
-    put-variable-requires
-    add-word-at-3
-    word-at-requires-4
-    walk-type-requires
-    enum-known-answer
+    enum-told-2
     same-length-10
     same-length-11
     same-length-12
     returns-4
-    enum-known-answer-2
+    in-chunk-requires
+    in-chunk-requires-2
+    variable-record-requires
+    put-variable-requires
+    add-word-at
+    word-at-requires-2
+    walk-type-requires
+    enum-known-answer
     same-length-13
     same-length-14
     same-length-15
     returns-5
+    enum-known-answer-2
     add-next
     add-at
     sub-left

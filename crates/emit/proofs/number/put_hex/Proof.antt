@@ -1,0 +1,50 @@
+-- `put_hex` meets its contract: the part of the digits that is filled in, put at the cursor.
+use mathlib.Core.Path.{_∙_}
+use Prim.Native.Nat.{_-_}
+use native.Mathlib.Omega.{arith}
+use Rattle.emit.proofs.Digits.{put-filled, filled-hex, hex-at-most}
+use borrow.Author.Needs.{needs}
+use Rattle.emit.proofs.number.put_hex.Statement.{statement}
+use Rattle.emit.proofs.number.put_hex.Tie as tie
+
+slice-aggregate-fill-digits : tie.Need-slice-aggregate-fill-digits
+slice-aggregate-fill-digits c = search needs
+
+fill-digits-requires : tie.Need-fill-digits-requires
+fill-digits-requires c κs = search needs
+
+sub-put-bytes : tie.Need-sub-put-bytes
+sub-put-bytes c = search needs
+
+part-put-bytes-start : tie.Need-part-put-bytes-start
+part-put-bytes-start c = search needs
+
+part-put-bytes-end : tie.Need-part-put-bytes-end
+part-put-bytes-end c = search needs
+
+put-bytes-requires : tie.Need-put-bytes-requires
+put-bytes-requires c κs = search needs
+
+same-length : tie.Need-same-length
+same-length c = search needs
+
+returns : tie.Need-returns
+returns c =
+    let f = c .before .before .before .before .before .before .before .fill-digits in
+    let n = c .before .before .before .before .before .before .before .before .before .before .args .n in
+    let filled = f .ensures .1 ∙ filled-hex n in
+    let p = put-filled (f .last .0) (f .result) (8 - f .result) (omega (arith, f .kept .0)) filled (c .before .before .put-bytes .ensures) in
+    (p, omega (arith, p .next, hex-at-most n))
+
+pub put-hex-spec : {M : Type 1} → statement M
+put-hex-spec =
+    tie.close
+    (tie.spec
+    slice-aggregate-fill-digits
+    fill-digits-requires
+    sub-put-bytes
+    part-put-bytes-start
+    part-put-bytes-end
+    put-bytes-requires
+    same-length
+    returns)

@@ -1,0 +1,38 @@
+-- A text written to a lent output: document 01, "Refusals" (17; zeros on a refusal; what lies past the written length keeps its old content).
+use mathlib.Core.Bool.{cond}
+use mathlib.Core.List.{List}
+use Prim.Native.Nat.{ℕ, min, _^_}
+use lib.Dec.{leb}
+use lib.ListN.{length, replicate}
+use Rattle.words.specs.Splice.{splice}
+use Rattle.reflection.specs.Outcome.{Outcome, ok, refused, because}
+use Rattle.emit.specs.declared.Written.{Written}
+use Rattle.emit.specs.declared.Written.the-variants.{Wrote, Refused}
+
+-- The bytes, where they fit the output and 65,536; else 17.
+unfoldable pub fitting : ℕ → Outcome (List ℕ) → Outcome (List ℕ)
+fitting room (ok bytes) = cond (leb (length bytes) (min room 65536)) (ok bytes) (refused (because 17))
+fitting room (refused e) = refused e
+
+-- The answer's two cases: how many bytes were written, or the refusal.
+unfoldable pub writtenOf : Outcome (List ℕ) → Written
+writtenOf (ok bytes) = Wrote (length bytes)
+writtenOf (refused e) = Refused e
+
+-- What the output then holds.
+unfoldable pub outputOf : Outcome (List ℕ) → List ℕ → List ℕ
+outputOf (ok bytes) out = splice out 0 bytes
+outputOf (refused e) out = replicate (length out) 0
+
+-- How far a cursor may be where a piece is put: a piece has fewer than 2^63 bytes, so the next cursor is no wrapped sum.
+abbrev pub farthest : ℕ
+farthest = 2 ^ 62
+
+-- The answer at the end of writing, by the cursor: the length, where it lies in the output and in 65,536; else 17.
+unfoldable pub finished : ℕ → ℕ → Written
+finished room at = cond (leb at (min room 65536)) (Wrote at) (Refused (because 17))
+
+-- An output after an answer: as it was written, or zeros.
+unfoldable pub kept : Written → List ℕ → List ℕ
+kept (Wrote n) out = out
+kept (Refused e) out = replicate (length out) 0

@@ -1,0 +1,2 @@
+-- Laws of what is handed to C and Rust.
+mod HandedOut

@@ -1,0 +1,12 @@
+-- `header_words`: the array is the definition's list.
+use mathlib.Core.Path.{refl}
+use Rattle.nontrefalcu.specs.Exports.{headerWords}
+use Rattle.nontrefalcu.proofs.header_words.Statement.{statement}
+use Rattle.nontrefalcu.proofs.header_words.Tie as tie
+
+returns : tie.Need-returns
+unfolding headerWords
+returns c = refl
+
+pub header-words-spec : {M : Type 1} → statement M
+header-words-spec = tie.close (tie.spec returns)

@@ -1,0 +1,77 @@
+// The file of stored cases: its places, and the case that begins at a place. A place past the file's end is `BEYOND`: what stands there reads as 0,
+// and no place after it is in the file again.
+ghost use Prim.Native.Nat.{_<_};
+
+// The file is shorter than this.
+pub const BEYOND: usize = 4194304;
+
+// The place `n` bytes after `at`.
+pub fn bytes_on(all: &[u8], at: usize, n: usize) -> usize {
+    if at <= all.len() {
+        if n <= all.len() - at {
+            return at + n;
+        }
+    }
+    BEYOND
+}
+
+// The place `n` words after `at`.
+pub fn words_on(all: &[u8], at: usize, n: usize) -> usize {
+    if n < 4294967296 {
+        return bytes_on(all, at, 4 * n);
+    }
+    BEYOND
+}
+
+// A stored case: where its chunk lies; the refusal's number, or 0; where its words begin; and how many words the header and each table have.
+pub struct Stored {
+    pub chunk: usize,
+    pub length: usize,
+    pub number: u32,
+    pub words: usize,
+    pub header: usize,
+    pub bindings: usize,
+    pub buffers: usize,
+    pub variables: usize,
+    pub types: usize,
+}
+
+// Word k of the header that begins at `at`.
+fn header_word(all: &[u8], at: usize, k: usize) -> usize
+    ensures { λ r. ⌜ r < 4294967296 ⌝ }
+{
+    words::word_at(all, words_on(all, at, k)) as usize
+}
+
+// The case that begins at `at`.
+pub fn stored_at(all: &[u8], at: usize) -> Stored {
+    let length = words::word_at(all, at) as usize;
+    let chunk = words_on(all, at, 1);
+    let end = bytes_on(all, chunk, length);
+    let number = words::word_at(all, end);
+    let first = words_on(all, end, 1);
+    if number != 0 {
+        return Stored {
+            chunk: chunk,
+            length: length,
+            number: number,
+            words: first,
+            header: 0,
+            bindings: 0,
+            buffers: 0,
+            variables: 0,
+            types: 0,
+        };
+    }
+    Stored {
+        chunk: chunk,
+        length: length,
+        number: 0,
+        words: first,
+        header: 12,
+        bindings: header_word(all, first, 8) * 12,
+        buffers: header_word(all, first, 9) * 7,
+        variables: header_word(all, first, 10) * 13,
+        types: header_word(all, first, 11) * 17,
+    }
+}
