@@ -23,7 +23,7 @@ use Rattle.type_walk.specs.declared.Walk.the-variants.{Next, Refused}
 use Rattle.type_walk.specs.Progress.{Progress, stopped, progress, Grew}
 use Rattle.table_walk.specs.Bindings.{appendBinding, bindingsProgress, codeFault, ReadyBindings, WalkedBindings}
 use Rattle.table_walk.proofs.Many.{many-none, many-stopped, many-further}
-use Rattle.table_walk.proofs.Table.{record-appended}
+use Rattle.type_walk.proofs.Table.{record-appended}
 use Rattle.table_walk.proofs.OneBinding.{binding-full, binding-short, binding-coded-wrong, binding-named-badly, binding-read}
 
 -- The loop's invariant: `next` bindings stand in the table, and `left` are left, from `at` on.

@@ -26,7 +26,7 @@ use Rattle.table_walk.specs.declared.BuffersWalk.the-variants.{Filled, H
 use Rattle.table_walk.specs.Variables.{variablesProgress, variablesAnswered, ReadyVariables, WalkedVariables}
 use Rattle.table_walk.specs.Buffers.{Words, appendBuffer, buffersProgress, bufferRow, ReadyBuffers, WalkedBuffers}
 use Rattle.table_walk.proofs.Many.{many-none, many-stopped, many-further}
-use Rattle.table_walk.proofs.Table.{record-appended}
+use Rattle.type_walk.proofs.Table.{record-appended}
 use Rattle.table_walk.proofs.OneBuffer.{ifNamed, buffer-full, buffer-short, buffer-read}
 
 -- The loop's invariant: `next` buffers, `variable` variables and `node` nodes stand in the tables, and `left` buffers are left, from `at` on.

@@ -1,6 +1,5 @@
 -- Laws that the walks' proofs cite.
 mod Many
-mod Table
 mod Range
 mod Codes
 mod Default

@@ -25,7 +25,7 @@ use Rattle.table_walk.specs.declared.VariablesWalk.{VariablesWalk}
 use Rattle.table_walk.specs.declared.VariablesWalk.the-variants.{Ended, Stopped}
 use Rattle.table_walk.specs.Variables.{appendVariable, variablesProgress, variableRow, ReadyVariables, WalkedVariables}
 use Rattle.table_walk.proofs.Many.{many-none, many-stopped, many-further}
-use Rattle.table_walk.proofs.Table.{record-appended}
+use Rattle.type_walk.proofs.Table.{record-appended}
 use Rattle.table_walk.proofs.OneVariable.{variable-full, variable-short, variable-default-outside, variable-named-badly, variable-read}
 
 -- The loop's invariant: `next` variables and `node` nodes stand in the tables, and `left` variables are left, from `at` on.

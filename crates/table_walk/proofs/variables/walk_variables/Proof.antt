@@ -38,7 +38,7 @@ same-length-3 c = c .before .before .loop .inv .long-path
 returns : tie.Need-returns Inv-loop μ-loop
 returns c =
     let at-loop-test = c .before in let at-loop = at-loop-test .before in let start = at-loop .before .before .before .before .before .before in
-    ends-full (start .pre) (at-loop .loop .inv) (at-loop-test .loop-test .taken) (c .if1 .taken)
+    ends-full (start .pre) (at-loop .loop .inv) (at-loop-test .loop-test .taken) (omega (arith, c .if1 .taken))
 
 inside-requires : tie.Need-inside-requires Inv-loop μ-loop
 inside-requires c κs = search needs
