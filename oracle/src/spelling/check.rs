@@ -1,0 +1,158 @@
+//! Holds entry points for spelling and listing to rdef.rs and to the model, to the last byte.
+
+use super::model::Model;
+use super::port::Entries;
+use super::rust::Rust;
+use super::{Answer, Case, Query, Speller, KINDS, NUMBERS};
+use crate::generate::rng::Rng;
+use std::fmt::Debug;
+
+/// Cells on both sides of a lent slice that must stay as they are.
+const GUARD: usize = 8;
+
+pub struct Checker {
+    entries: Entries,
+    /// How many answers of each kind there were with each of `NUMBERS`.
+    pub counts: [[u64; 4]; 4],
+    pub compared: u64,
+    pub different: u64,
+    /// The first difference, in words.
+    pub first: Option<String>,
+}
+
+impl Checker {
+    pub fn new(entries: Entries) -> Checker {
+        Checker { entries, counts: [[0; 4]; 4], compared: 0, different: 0, first: None }
+    }
+
+    /// Calls the entry point and counts the answer, and a difference if there is one.
+    pub fn compare(&mut self, name: &str, case: &Case, rng: &mut Rng) {
+        let expected = Rust.answer(&case.query, case.room);
+        self.compared += 1;
+        self.counts[case.query.kind()][place(expected.number)] += 1;
+        if let Err(what) = self.one(case, &expected, rng) {
+            self.different += 1;
+            self.first.get_or_insert_with(|| format!("{name}: {what}\n{case:x?}\nrdef.rs: {expected:x?}"));
+        }
+    }
+
+    fn one(&self, case: &Case, expected: &Answer, rng: &mut Rng) -> Result<(), String> {
+        let model = Model.answer(&case.query, case.room);
+        ensure(model == *expected, || format!("the model answers {model:x?}"))?;
+        let (buffers, records) = match &case.query {
+            Query::ParseType(text) => return self.parse(text, expected, rng),
+            Query::TypeName(buffers, node) => (buffers, vec![&node[..]]),
+            Query::Declaration(buffers, node, variable) => (buffers, vec![&node[..], &variable[..]]),
+            Query::ListBinding(buffers, binding) => (buffers, vec![&binding[..]]),
+        };
+        let chunk = Guarded::bytes(&buffers.chunk, rng);
+        let edits = Guarded::bytes(&buffers.edits, rng);
+        let words: Vec<Guarded<u32>> = records.iter().map(|record| Guarded::new(record, rng.word(), 0)).collect();
+        let (garbage, old) = (rng.between(1, 255) as u8, rng.word() | 1);
+        let mut out = Guarded::new(&vec![garbage; case.room], garbage, rng.below(8));
+        let mut length = Guarded::new(&[old], old, 0);
+
+        let (lent_chunk, lent_edits, first) = (chunk.lent(), edits.lent(), words[0].lent());
+        let (lent_out, lent_length) = (out.lent_mut(), length.lent_mut());
+        let given = match case.query {
+            Query::TypeName(..) => (self.entries.type_name)(lent_chunk, lent_edits, first, lent_out, lent_length),
+            Query::ListBinding(..) => (self.entries.list_binding)(lent_chunk, lent_edits, first, lent_out, lent_length),
+            _ => (self.entries.declaration)(lent_chunk, lent_edits, first, words[1].lent(), lent_out, lent_length),
+        };
+
+        ensure(given == expected.number, || format!("answer {given}, not {}", expected.number))?;
+        chunk.holds("chunk", &buffers.chunk)?;
+        edits.holds("edits", &buffers.edits)?;
+        for (lent, record) in words.iter().zip(records) {
+            lent.holds("record", record)?;
+        }
+        length.holds("length", &[expected.text.len() as u32])?;
+        // A refusal leaves zeros, a text leaves the bytes behind it.
+        let mut wanted = vec![if given == 0 { garbage } else { 0 }; case.room];
+        wanted[..expected.text.len()].copy_from_slice(&expected.text);
+        out.holds("output", &wanted)
+    }
+
+    fn parse(&self, text: &[u8], expected: &Answer, rng: &mut Rng) -> Result<(), String> {
+        let lent = Guarded::bytes(text, rng);
+        let old = rng.word() | 1;
+        let mut numbers = Guarded::new(&[old; 5], old, 0);
+        let given = (self.entries.parse_type)(lent.lent(), numbers.lent_mut());
+        ensure(given == expected.number, || format!("answer {given}, not {}", expected.number))?;
+        lent.holds("text", text)?;
+        numbers.holds("numbers", &expected.numbers)
+    }
+
+    /// A line for each kind with its counts, then how many were compared and how many differ.
+    pub fn report(&self) -> String {
+        counts_lines(&self.counts) + &format!("{} compared, {} different", self.compared, self.different)
+    }
+}
+
+/// A line for each kind: how many were answered, how many refused with each number.
+pub fn counts_lines(counts: &[[u64; 4]; 4]) -> String {
+    let mut lines = String::new();
+    for (kind, counts) in KINDS.iter().zip(counts) {
+        lines += &format!("{kind}: {} answered", counts[0]);
+        for (number, count) in NUMBERS.iter().zip(counts).skip(1).filter(|(_, &count)| count > 0) {
+            lines += &format!(", {count} refused {number}");
+        }
+        lines += "\n";
+    }
+    lines
+}
+
+/// The place in `NUMBERS`.
+pub fn place(number: u32) -> usize {
+    NUMBERS.iter().position(|&known| known == number).expect("0, 16, 17 or 18")
+}
+
+fn ensure(holds: bool, what: impl FnOnce() -> String) -> Result<(), String> {
+    if holds {
+        Ok(())
+    } else {
+        Err(what())
+    }
+}
+
+/// A lent slice between guard cells.
+struct Guarded<T> {
+    cells: Vec<T>,
+    start: usize,
+    length: usize,
+    guard: T,
+}
+
+impl Guarded<u8> {
+    /// At any address, between bytes that would end a text or carry it on, if they were read.
+    fn bytes(bytes: &[u8], rng: &mut Rng) -> Guarded<u8> {
+        Guarded::new(bytes, rng.pick(&[0, b'4', b']', b'a', 0xbf, 0xff]), rng.below(8))
+    }
+}
+
+impl<T: Copy + PartialEq + Debug> Guarded<T> {
+    fn new(content: &[T], guard: T, shift: usize) -> Guarded<T> {
+        let (start, length) = (GUARD + shift, content.len());
+        let mut cells = vec![guard; start + length + GUARD];
+        cells[start..start + length].copy_from_slice(content);
+        Guarded { cells, start, length, guard }
+    }
+
+    fn lent(&self) -> &[T] {
+        &self.cells[self.start..self.start + self.length]
+    }
+
+    fn lent_mut(&mut self) -> &mut [T] {
+        &mut self.cells[self.start..self.start + self.length]
+    }
+
+    /// These cells, and the guards as they were.
+    fn holds(&self, name: &str, wanted: &[T]) -> Result<(), String> {
+        if let Some(index) = (0..self.length).find(|&index| self.lent()[index] != wanted[index]) {
+            return Err(format!("{name}: cell {index} is {:x?}, not {:x?}", self.lent()[index], wanted[index]));
+        }
+        let (before, after) = (&self.cells[..self.start], &self.cells[self.start + self.length..]);
+        let kept = before.iter().chain(after).all(|&cell| cell == self.guard);
+        ensure(kept, || format!("{name}: written outside"))
+    }
+}
