@@ -1,6 +1,7 @@
 //! The reading of RDEF chunks, three times: the Rust that is ported (`rdef`, unchanged), a plain reader
 //! written from document 01 (`model`), and the port itself where its library is linked (`port`).
 //! `words` and `model` give the same words, so that all three can be compared word for word.
+//! `spelling` has the same three for spelling types and listing bindings.
 
 // What rdef.rs expects of the crate around it.
 extern crate alloc;
@@ -18,6 +19,7 @@ pub mod check;
 pub mod generate;
 pub mod model;
 pub mod port;
+pub mod spelling;
 pub mod tables;
 pub mod utf8;
 pub mod words;

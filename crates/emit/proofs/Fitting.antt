@@ -1,5 +1,5 @@
 -- The end of writing: where the output is the lent one with some bytes put at its start, the answer and the output are those of the bytes that fit.
--- The cursor is then the number of bytes, and the output keeps its length.
+-- The cursor is then the number of bytes, and the output keeps its length. A refusal passes through.
 use mathlib.Core.Path.{_≡_, refl, ap, _∙_}
 use mathlib.Core.Bool.{Bool, true, false, cond}
 use mathlib.Core.List.{List}
@@ -8,10 +8,24 @@ use native.Mathlib.Omega.{arith}
 use lib.Dec.{leb}
 use lib.ListN.{length, replicate}
 use Rattle.words.specs.Splice.{Put, put-length}
-use Rattle.reflection.specs.Outcome.{ok, refused, because}
+use Rattle.reflection.specs.Outcome.{Outcome, ok, refused, because}
+use Rattle.reflection.specs.declared.Refusal.{Refusal}
 use Rattle.emit.specs.declared.Written.the-variants.{Wrote, Refused}
 use Rattle.emit.specs.Written.{fitting, writtenOf, outputOf, finished, kept}
 
+-- nothing to write: the refusal
+module _ {outcome : Outcome (List ℕ)} {why : Refusal} (refusal : outcome ≡ refused why) (lent : List ℕ) where
+  refused-fitting : refused why ≡ fitting (length lent) outcome
+  unfolding fitting
+  refused-fitting = rw refusal
+
+  pub refused-answer : writtenOf (refused why) ≡ writtenOf (fitting (length lent) outcome)
+  refused-answer = ap writtenOf refused-fitting
+
+  pub refused-output : outputOf (refused why) lent ≡ outputOf (fitting (length lent) outcome) lent
+  refused-output = ap (λ (o : Outcome (List ℕ)). outputOf o lent) refused-fitting
+
+-- bytes that were put
 module _ {lent out bytes : List ℕ} {at : ℕ} (put : Put lent 0 bytes out at) where
   at-end : at ≡ length bytes
   at-end = omega (arith, put .next)

@@ -16,20 +16,26 @@ use Rattle.reader.specs.declared.Parsed.the-variants.{Read, Refused}
 use Rattle.reader.specs.Parsed.{parsedOf}
 use Rattle.nontrefalcu.specs.Exports.{numberOf, headerWords, headerTable}
 
--- What the contract says of the number and of a lent header of n words, before what it says of the tables.
-abbrev HandedOut : Outcome (ResourceDef Text Text) → ℕ → ℕ → List ℕ → Type 0 → Type 0
-HandedOut out n number header Tables = (number ≡ numberOf out) × ((header ≡ headerTable out n) × Tables)
+module _ {r : Parsed} where
+  pub refused-number : (out : Outcome (ResourceDef Text Text)) (e : Refusal) → r ≡ Refused e → r ≡ parsedOf out → e .number ≡ numberOf out
+  unfolding parsedOf numberOf
+  refused-number (ok def) e refusal answer = absurd (let apart : _≡_ {A = ℕ} 0 1 = cc in omega arith)
+  refused-number (refused d) e refusal answer = let same : e ≡ d = cc in ap (λ (x : Refusal). x .number) same
 
-module _ (n : ℕ) {r : Parsed} {cleared : List ℕ} {Tables : Type 0} where
-  pub refused-handed-out : (out : Outcome (ResourceDef Text Text)) (e : Refusal) → r ≡ Refused e → r ≡ parsedOf out → cleared ≡ replicate n 0 → Tables
-      → HandedOut out n (e .number) cleared Tables
-  unfolding parsedOf numberOf headerTable
-  refused-handed-out (ok def) e refusal answer zeros tables = absurd (let apart : _≡_ {A = ℕ} 0 1 = cc in omega arith)
-  refused-handed-out (refused d) e refusal answer zeros tables = let same : e ≡ d = cc in (ap (λ (x : Refusal). x .number) same, (zeros, tables))
+  pub refused-header : (out : Outcome (ResourceDef Text Text)) (n : ℕ) (e : Refusal) {header : List ℕ}
+      → r ≡ Refused e → r ≡ parsedOf out → header ≡ replicate n 0 → header ≡ headerTable out n
+  unfolding parsedOf headerTable
+  refused-header (ok def) n e refusal answer zeros = absurd (let apart : _≡_ {A = ℕ} 0 1 = cc in omega arith)
+  refused-header (refused d) n e refusal answer zeros = zeros
 
-  pub read-handed-out : (out : Outcome (ResourceDef Text Text)) (h : Header) {words header : List ℕ} → r ≡ Read h → r ≡ parsedOf out → cleared ≡ replicate n 0
-      → words ≡ headerWords h → header ≡ splice cleared 0 words → Tables → HandedOut out n 0 header Tables
-  unfolding parsedOf numberOf headerTable
-  read-handed-out (refused d) h read answer zeros twelve put tables = absurd (let apart : _≡_ {A = ℕ} 0 1 = cc in omega arith)
-  read-handed-out (ok def) h read answer zeros twelve put tables =
-      let same : h ≡ headerOf def = cc in (refl, (put ∙ λ i. splice (zeros i) 0 ((twelve ∙ ap headerWords same) i), tables))
+  pub read-number : (out : Outcome (ResourceDef Text Text)) (h : Header) → r ≡ Read h → r ≡ parsedOf out → 0 ≡ numberOf out
+  unfolding parsedOf numberOf
+  read-number (ok def) h read answer = refl
+  read-number (refused d) h read answer = absurd (let apart : _≡_ {A = ℕ} 0 1 = cc in omega arith)
+
+  pub read-header : (out : Outcome (ResourceDef Text Text)) (n : ℕ) (h : Header) {cleared words header : List ℕ}
+      → r ≡ Read h → r ≡ parsedOf out → cleared ≡ replicate n 0 → words ≡ headerWords h → header ≡ splice cleared 0 words → header ≡ headerTable out n
+  unfolding parsedOf headerTable
+  read-header (ok def) n h read answer zeros twelve put =
+      let same : h ≡ headerOf def = cc in put ∙ λ i. splice (zeros i) 0 ((twelve ∙ ap headerWords same) i)
+  read-header (refused d) n h read answer zeros twelve put = absurd (let apart : _≡_ {A = ℕ} 0 1 = cc in omega arith)

@@ -20,7 +20,7 @@ pub fn identifier(rng: &mut Rng, least: usize, most: usize) -> Vec<u8> {
 }
 
 /// One sequence of a random row of table 3-7, without NUL.
-fn scalar(rng: &mut Rng) -> Vec<u8> {
+pub fn scalar(rng: &mut Rng) -> Vec<u8> {
     let row = rng.pick(&ROWS);
     row.iter().map(|&(low, high)| rng.between(usize::from(low), usize::from(high)).max(1) as u8).collect()
 }

@@ -29,8 +29,10 @@ loop-less c = omega arith
 
 loop-again : tie.Need-loop-again Inv-loop μ-loop
 loop-again c =
-    let l = c .before .loop in
-    let a = c .before .before .args in
+    let at-loop = c .before in
+    let entry = at-loop .before in
+    let l = at-loop .loop in
+    let a = entry .args in
     (omega arith, (length-set (l .out) (l .i) 0 ∙ l .inv .1 .0, splice-replicate-more (a .out .now) 0 (l .i) 0 (l .inv .1 .1) (omega arith)))
 
 same-length : tie.Need-same-length Inv-loop μ-loop

@@ -29,7 +29,8 @@ returns-2 : tie.Need-returns-2
 unfolding finished kept writtenOf outputOf
 returns-2 c =
     let a = c .before .before .before .before .before .before .before .args in
-    let over : min (length (a .out .now)) 65536 < a .at = omega (arith, c .before .before .before .before .before .least .ensures, c .before .before .before .before .if1 .left) in
+    let least = c .before .before .before .before .before .least .ensures in
+    let over : min (length (a .out .now)) 65536 < a .at = omega (arith, least, c .before .before .before .before .if1 .left) in
     let e = lt-leb (a .at) (min (length (a .out .now)) 65536) over in
     (rw e (c .before .before .refuse .ensures .0), rw e (c .before .before .refuse .ensures .1))
 

@@ -43,8 +43,10 @@ loop-less c = omega arith
 
 loop-again : tie.Need-loop-again Inv-loop μ-loop
 loop-again c =
-    let l = c .before .before .loop in
-    let a = c .before .before .before .before .before .before .before .args in
+    let at-loop = c .before .before in
+    let entry = at-loop .before .before .before .before .before in
+    let l = at-loop .loop in
+    let a = entry .args in
     (omega arith, (length-set (l .out) _ _ ∙ l .inv .1 .0, splice-take-more (a .out .now) (a .at) (l .i) (a .bytes .now) 0 (l .inv .1 .1) (omega arith)))
 
 same-length : tie.Need-same-length Inv-loop μ-loop

@@ -1,7 +1,7 @@
 -- `nontrefalcu_parse_rdef` meets its contract: the tables are as the reader left them, and its answer gives the number and the header's words.
 use borrow.Author.Needs.{needs}
 use mathlib.Core.Path.{_∙_}
-use Rattle.nontrefalcu.proofs.HandedOut.{refused-handed-out, read-handed-out}
+use Rattle.nontrefalcu.proofs.HandedOut.{refused-number, refused-header, read-number, read-header}
 use Rattle.nontrefalcu.proofs.nontrefalcu_parse_rdef.Statement.{statement}
 use Rattle.nontrefalcu.proofs.nontrefalcu_parse_rdef.Tie as tie
 
@@ -43,9 +43,12 @@ same-length-5 c = search needs
 
 returns : tie.Need-returns
 returns c =
+    let refusal = c .before .parsed .given in
     let reading = c .before .before .before .before .before .before .before .before .before .before .before in
-    refused-handed-out _ _ (c .before .parsed .given .0 .0) (c .before .parsed .given .1) (reading .parse-rdef .ensures .0)
-    (reading .before .before .before .before .before .before .before .clear .ensures) (reading .parse-rdef .ensures .1)
+    let zeros = reading .before .before .before .before .before .before .before .clear .ensures in (
+      refused-number _ (refusal .0 .0) (refusal .1) (reading .parse-rdef .ensures .0),
+      (refused-header _ _ (refusal .0 .0) (refusal .1) (reading .parse-rdef .ensures .0) zeros, reading .parse-rdef .ensures .1),
+    )
 
 same-length-6 : tie.Need-same-length-6
 same-length-6 c = c .before .before .put-words .kept .0 ∙ c .before .before .before .before .before .before .before .before .before .before .before .before .before .before .before .before .before .before .before .before .before .before .before .before .clear .kept .0
@@ -64,10 +67,14 @@ same-length-10 c = search needs
 
 returns-2 : tie.Need-returns-2
 returns-2 c =
+    let put = c .before .before .put-words .ensures in
+    let twelve = c .before .before .before .before .before .header-words .ensures in
+    let read = c .before .before .before .before .before .before .before .parsed2 .given in
     let reading = c .before .before .before .before .before .before .before .before .before .before .before .before .before .before .before .before .before in
-    let answered = c .before .before .before .before .before .before .before in
-    read-handed-out _ _ (answered .parsed2 .given .0 .0) (answered .parsed2 .given .1) (reading .parse-rdef .ensures .0)
-    (reading .before .before .before .before .before .before .before .clear .ensures) (c .before .before .before .before .before .header-words .ensures) (c .before .before .put-words .ensures) (reading .parse-rdef .ensures .1)
+    let zeros = reading .before .before .before .before .before .before .before .clear .ensures in (
+      read-number _ (read .0 .0) (read .1) (reading .parse-rdef .ensures .0),
+      (read-header _ _ (read .0 .0) (read .1) (reading .parse-rdef .ensures .0) zeros twelve put, reading .parse-rdef .ensures .1),
+    )
 
 pub nontrefalcu-parse-rdef-spec : {M : Type 1} → statement M
 nontrefalcu-parse-rdef-spec =

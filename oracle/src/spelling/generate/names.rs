@@ -50,23 +50,29 @@ pub fn fill(buffer: &mut Vec<u8>, rng: &mut Rng) {
 /// Other words for a name: mostly out of place by little, by much or only if a sum wraps; now and then
 /// in place still, at another part.
 pub fn misplace(words: &mut [u32], buffers: &Buffers, rng: &mut Rng) {
-    let length = if words[0] == 0 { buffers.chunk.len() } else { buffers.edits.len() } as u32;
-    let [source, place] = [words[0], words[1]];
-    match rng.below(12) {
-        0 | 1 => words[0] = rng.pick_or_word(&[2, 3, 0x100, 0x101, 0x1_0000, 0x8000_0000, 0xffff_ffff]),
-        2 => words[0] = source ^ 1,
-        // The empty text at the end, or just behind it.
-        3 => words[1..3].copy_from_slice(&[length + rng.below(2) as u32, 0]),
-        4 => words[1..3].copy_from_slice(&[length - length.min(1) + rng.below(2) as u32, 1]),
+    let [source, place, length] = [words[0], words[1], words[2]];
+    let end = if source == 0 { buffers.chunk.len() } else { buffers.edits.len() } as u32;
+    let (one_or_none, some) = (rng.below(2) as u32, rng.below(end as usize + 1) as u32);
+    let new = match rng.below(12) {
+        0 | 1 => [rng.pick_or_word(&[2, 3, 0x100, 0x101, 0x1_0000, 0x8000_0000, 0xffff_ffff]), place, length],
+        2 => [source ^ 1, place, length],
+        // The empty text at the end, or just behind it; the last byte, or the one behind it.
+        3 => [source, end + one_or_none, 0],
+        4 => [source, end.saturating_sub(1) + one_or_none, 1],
         // To the end, or a byte more.
-        5 => words[2] = length - place + rng.below(2) as u32,
-        6 => words[2] = length - place + 1,
+        5 => [source, place, end - place + one_or_none],
+        6 => [source, place, end - place + 1],
         // Sums that come out small if they wrap.
-        7 => words[2] = 0u32.wrapping_sub(place).wrapping_add(rng.below(length as usize + 1) as u32),
-        8 => words[1..3].copy_from_slice(&rng.pick(&[[0xffff_ffff, 1], [0xffff_fffe, 3], [0x8000_0000, 0x8000_0000]])),
+        7 => [source, place, some.wrapping_sub(place)],
+        8 => [source, some.wrapping_sub(length), length],
         // A part of the name, which may cut a sequence.
-        9 => words[1..3].copy_from_slice(&[place + words[2].min(1), words[2].saturating_sub(1)]),
-        10 => words[2] = words[2].saturating_sub(rng.between(1, 2) as u32),
-        _ => words[rng.below(3)] ^= 1 << rng.below(32),
-    }
+        9 => [source, place + length.min(1), length.saturating_sub(1)],
+        10 => [source, place, length.saturating_sub(1 + one_or_none)],
+        _ => {
+            let mut flipped = [source, place, length];
+            flipped[rng.below(3)] ^= 1 << rng.below(32);
+            flipped
+        }
+    };
+    words.copy_from_slice(&new);
 }

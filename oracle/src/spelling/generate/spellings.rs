@@ -112,7 +112,7 @@ fn damage(text: &mut Vec<u8>, rng: &mut Rng) {
         text.push(rng.pick(BYTES));
         return;
     }
-    let at = rng.below(text.len());
+    let (at, other) = (rng.below(text.len()), rng.below(text.len()));
     match rng.below(9) {
         0 | 1 => text[at] = if rng.one_in(3) { rng.byte() } else { rng.pick(BYTES) },
         2 => text.insert(rng.below(text.len() + 1), rng.pick(BYTES)),
@@ -120,7 +120,7 @@ fn damage(text: &mut Vec<u8>, rng: &mut Rng) {
         4 => drop(text.remove(at)),
         5 => text.insert(at, text[at]),
         6 => text[at] ^= if text[at].is_ascii_alphabetic() { 0x20 } else { 1 << rng.below(8) },
-        7 => text.swap(at, rng.below(text.len())),
+        7 => text.swap(at, other),
         _ if rng.one_in(2) => text.truncate(at),
         _ => drop(text.drain(..at)),
     }

@@ -42,9 +42,12 @@ same-length c = length-set (c .before .before .before .loop .digits) _ _ ∙ c .
 
 returns : tie.Need-returns Inv-loop μ-loop
 returns c =
-    let l = c .before .before .before .loop in
-    let d = c .before .digit in
-    let b = c .before .before .before .before .before .args .base in
+    let at-digit = c .before in
+    let at-loop = at-digit .before .before in
+    let entry = at-loop .before .before in
+    let l = at-loop .loop in
+    let d = at-digit .digit in
+    let b = entry .args .base in
     let last = last-digit hexDigit b (l .digits) (l .i) (l .left) (d .result) (l .inv .1 .1) (omega arith) (omega arith) (d .ensures) (c .if1 .taken) in
     (omega arith, last)
 
@@ -56,9 +59,12 @@ loop-less c = omega arith
 
 loop-again : tie.Need-loop-again Inv-loop μ-loop
 loop-again c =
-    let l = c .before .before .before .loop in
-    let d = c .before .digit in
-    let b = c .before .before .before .before .before .args .base in
+    let at-digit = c .before in
+    let at-loop = at-digit .before .before in
+    let entry = at-loop .before .before in
+    let l = at-loop .loop in
+    let d = at-digit .digit in
+    let b = entry .args .base in
     let more = more-digits hexDigit b (l .digits) (l .i) (l .left) (d .result) (l .inv .1 .1) (omega arith) (omega arith) (d .ensures) (c .if1 .left) in
     (omega arith, (length-set (l .digits) _ _ ∙ l .inv .1 .0, more))
 

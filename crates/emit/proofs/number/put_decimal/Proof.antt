@@ -30,10 +30,13 @@ same-length c = search needs
 
 returns : tie.Need-returns
 returns c =
-    let f = c .before .before .before .before .before .before .before .fill-digits in
-    let n = c .before .before .before .before .before .before .before .before .before .before .args .n in
+    let at-put-bytes = c .before .before in
+    let at-fill-digits = at-put-bytes .before .before .before .before .before in
+    let entry = at-fill-digits .before .before .before in
+    let f = at-fill-digits .fill-digits in
+    let n = entry .args .n in
     let filled = f .ensures .1 ∙ filled-decimal n in
-    let p = put-filled (f .last .0) (f .result) (10 - f .result) (omega (arith, f .kept .0)) filled (c .before .before .put-bytes .ensures) in
+    let p = put-filled (f .last .0) (f .result) (10 - f .result) (omega (arith, f .kept .0)) filled (at-put-bytes .put-bytes .ensures) in
     (p, omega (arith, p .next, decimal-at-most n))
 
 pub put-decimal-spec : {M : Type 1} → statement M
