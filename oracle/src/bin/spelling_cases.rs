@@ -15,7 +15,7 @@ fn main() {
     let mut counts = [[0; 4]; 4];
     for case in &cases {
         let answer = Rust.answer(&case.query, case.room);
-        assert_eq!(answer, Model.answer(&case.query, case.room), "the model and rdef.rs part on {case:x?}");
+        assert_eq!(answer, Model.answer(&case.query, case.room), "the model and rdef.rs part on {case}");
         counts[case.query.kind()][place(answer.number)] += 1;
     }
     let file = stored::file(&cases);

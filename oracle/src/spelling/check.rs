@@ -32,13 +32,13 @@ impl Checker {
         self.counts[case.query.kind()][place(expected.number)] += 1;
         if let Err(what) = self.one(case, &expected, rng) {
             self.different += 1;
-            self.first.get_or_insert_with(|| format!("{name}: {what}\n{case:x?}\nrdef.rs: {expected:x?}"));
+            self.first.get_or_insert_with(|| format!("{name}: {what}\n{case}\nby rdef.rs: {expected}"));
         }
     }
 
     fn one(&self, case: &Case, expected: &Answer, rng: &mut Rng) -> Result<(), String> {
         let model = Model.answer(&case.query, case.room);
-        ensure(model == *expected, || format!("the model answers {model:x?}"))?;
+        ensure(model == *expected, || format!("the model has {model}"))?;
         let (buffers, records) = match &case.query {
             Query::ParseType(text) => return self.parse(text, expected, rng),
             Query::TypeName(buffers, node) => (buffers, vec![&node[..]]),

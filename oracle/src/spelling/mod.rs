@@ -6,6 +6,7 @@ pub mod generate;
 pub mod model;
 pub mod port;
 pub mod rust;
+mod show;
 pub mod stored;
 
 use crate::tables::{BINDING_WORDS, TYPE_WORDS, VARIABLE_WORDS};

@@ -67,8 +67,7 @@ impl Speller for Model {
             Some(_) => return Err(18),
         };
         // No base begins another, so at most one fits.
-        let (base, sizes) =
-            BASES.iter().find_map(|base| Some((base.0, core.strip_prefix(base.1)?))).ok_or(18u32)?;
+        let (base, sizes) = BASES.iter().find_map(|base| Some((base.0, core.strip_prefix(base.1)?))).ok_or(18u32)?;
         let Some(first) = sizes.first() else {
             return Ok([0, base, 1, 1, elements]);
         };

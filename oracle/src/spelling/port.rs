@@ -4,14 +4,23 @@
 use super::model::Model;
 use super::{Answer, Speller};
 
+/// An entry point that spells or lists one record.
+pub type OfRecord = fn(chunk: &[u8], edits: &[u8], record: &[u32], out: &mut [u8], length: &mut [u32]) -> u32;
+
+/// One that takes a type node and a variable.
+pub type OfTwo =
+    fn(chunk: &[u8], edits: &[u8], node: &[u32], variable: &[u32], out: &mut [u8], length: &mut [u32]) -> u32;
+
+/// One that reads a text.
+pub type OfText = fn(text: &[u8], numbers: &mut [u32]) -> u32;
+
 /// Each answers 0 or the refusal's number. `length` has one word, `numbers` five.
 #[derive(Clone, Copy)]
 pub struct Entries {
-    pub type_name: fn(chunk: &[u8], edits: &[u8], node: &[u32], out: &mut [u8], length: &mut [u32]) -> u32,
-    pub declaration:
-        fn(chunk: &[u8], edits: &[u8], node: &[u32], variable: &[u32], out: &mut [u8], length: &mut [u32]) -> u32,
-    pub parse_type: fn(text: &[u8], numbers: &mut [u32]) -> u32,
-    pub list_binding: fn(chunk: &[u8], edits: &[u8], binding: &[u32], out: &mut [u8], length: &mut [u32]) -> u32,
+    pub type_name: OfRecord,
+    pub declaration: OfTwo,
+    pub parse_type: OfText,
+    pub list_binding: OfRecord,
 }
 
 /// The model as such entry points. It stands in for the port where the library is not linked.

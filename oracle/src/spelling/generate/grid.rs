@@ -23,7 +23,8 @@ fn spellings() -> Vec<Query> {
         }
     }
     // A number that may be none, in each place for a number.
-    let odd = ["", "+", "++1", "+-1", "-1", "-0", "+0", "+65535", " 1", "1 ", "1_0", "1e1", "1.0", "\u{663}", "\u{ff11}"];
+    let odd =
+        ["", "+", "++1", "+-1", "-1", "-0", "+0", "+65535", " 1", "1 ", "1_0", "1e1", "1.0", "\u{663}", "\u{ff11}"];
     for number in NUMBERS.iter().chain(&odd) {
         for form in ["float{}", "int{}x2", "bool2x{}", "uint[{}]", "double4x4[{}]"] {
             texts.push(form.replace("{}", number));
@@ -34,6 +35,7 @@ fn spellings() -> Vec<Query> {
 }
 
 /// Missing, doubled and misplaced parts; words that are no base.
+#[rustfmt::skip]
 const FORMS: [&str; 84] = [
     "[", "]", "[]", "x", "+", "4", "4x4", "[3]", "x4", "3x", "float[", "float]", "float[3", "float3]", "float[3]]",
     "float[[3]", "float[[3]]", "float[3][4]", "float[3]4", "float[3]x4", "float4[3]4", "float[3x4]", "float[x]",

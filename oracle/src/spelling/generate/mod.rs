@@ -63,12 +63,15 @@ pub fn with_room(query: Query, rng: &mut Rng) -> Case {
     Case { query, room }
 }
 
-/// All rooms around the text's length, and a few others.
+/// Rooms around the text's length, or around the greatest length there is.
 pub fn with_rooms(query: &Query) -> Vec<Case> {
-    if query.kind() == 2 {
-        return vec![Case { query: query.clone(), room: 0 }];
-    }
-    let length = Rust.answer(query, LONGEST).text.len();
-    let rooms = [0, length.saturating_sub(1), length, length + 1, length + 50];
-    rooms.iter().map(|&room| Case { query: query.clone(), room }).collect()
+    let answer = Rust.answer(query, LONGEST);
+    let length = answer.text.len();
+    let rooms = match (query.kind(), answer.number) {
+        (2, _) => vec![0],
+        (_, 0) => vec![0, length.saturating_sub(1), length, length + 1, length + 50],
+        (_, 17) => vec![0, 65_535, 65_536, 65_537, 80_000],
+        _ => vec![0, 1, 50],
+    };
+    rooms.into_iter().map(|room| Case { query: query.clone(), room }).collect()
 }

@@ -29,6 +29,7 @@ pub const NUMBERS: [&str; 20] = [
 ];
 
 /// Pieces that a text may be put together from.
+#[rustfmt::skip]
 const PIECES: [&str; 33] = [
     "bool", "int", "float", "uint", "double", "half", "void", "Float", "FLOAT", "x", "X", "[", "]", "+", "-", "0", "1",
     "3", "4", "10", "65535", "65536", " ", "\0", "[3]", "[]", "4x4", "x3", "\u{ff14}", "\u{663}", "\u{b2}", "\u{ff58}",

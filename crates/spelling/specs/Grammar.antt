@@ -1,0 +1,146 @@
+-- Reading a spelling: document 01, "Spelling and listing" (`parse_hlsl_type` in the Rust). As a grammar:
+--   type    = core | core '[' number ']'          the first '[' parts the two; ']' is the last byte
+--   core    = base | base digits.. | base digits.. 'x' number
+--             base is all before the first digit; the first 'x' after it parts rows and columns
+--   number  = ['+'] digit {digit}                 below 65,536; leading zeros without limit
+use mathlib.Core.Bool.{Bool, true, false, _&&_, cond}
+use mathlib.Core.List.{List, [], _∷_, _++_}
+use mathlib.Core.Option.{Option, none, some}
+use Prim.Native.Nat.{ℕ, suc, _+_, _*_, _-_}
+use lib.Dec.{eqb, leb, ltb}
+use Rattle.reflection.specs.Nodes.{_>>=_}
+use Rattle.reflection.specs.Outcome.{because}
+use Rattle.spelling.specs.declared.TypeSpelling.{TypeSpelling}
+use Rattle.spelling.specs.declared.SpelledType.{SpelledType}
+use Rattle.spelling.specs.declared.SpelledType.the-variants.{Understood, Refused}
+use Rattle.spelling.specs.declared.parse.Number.{Number}
+use Rattle.spelling.specs.declared.parse.Number.the-variants.{Value, NotUnderstood}
+use Rattle.spelling.specs.Names.{baseNumber}
+
+abbrev pub isDigit : ℕ → Bool
+isDigit b = leb 48 b && leb b 57
+
+-- The value of decimal digits after those of value n; none where a byte is no digit.
+unfoldable pub digitsValue : List ℕ → ℕ → Option ℕ
+digitsValue [] n = some n
+digitsValue (b ∷ bs) n = cond (isDigit b) (digitsValue bs (10 * n + (b - 48))) none
+
+-- One digit or more.
+abbrev pub digitsNumber : List ℕ → Option ℕ
+digitsNumber [] = none
+digitsNumber (b ∷ bs) = digitsValue (b ∷ bs) 0
+
+-- A leading `+` is taken.
+abbrev pub withoutPlus : List ℕ → List ℕ
+withoutPlus [] = []
+withoutPlus (b ∷ bs) = cond (eqb b 43) bs (b ∷ bs)
+
+abbrev pub below65536 : ℕ → Option ℕ
+below65536 n = cond (ltb n 65536) (some n) none
+
+unfoldable pub number : List ℕ → Option ℕ
+number text = do
+  n ← digitsNumber (withoutPlus text)
+  below65536 n
+
+-- The bytes before and after the first byte c; none where it does not occur.
+abbrev pub afterByte : ℕ → Option (List ℕ × List ℕ) → Option (List ℕ × List ℕ)
+afterByte b none = none
+afterByte b (some p) = some (b ∷ p .0, p .1)
+
+unfoldable pub splitOnce : ℕ → List ℕ → Option (List ℕ × List ℕ)
+splitOnce c [] = none
+splitOnce c (b ∷ bs) = cond (eqb b c) (some ([], bs)) (afterByte b (splitOnce c bs))
+
+-- All but the last byte, which must be c.
+unfoldable pub withoutLast : ℕ → List ℕ → Option (List ℕ)
+withoutLast c [] = none
+withoutLast c (b ∷ []) = cond (eqb b c) (some []) none
+withoutLast c (b ∷ x ∷ xs) = do
+  others ← withoutLast c (x ∷ xs)
+  some (b ∷ others)
+
+-- The bytes before the first digit, and those from it on.
+unfoldable pub beforeDigit : List ℕ → List ℕ
+beforeDigit [] = []
+beforeDigit (b ∷ bs) = cond (isDigit b) [] (b ∷ beforeDigit bs)
+
+unfoldable pub fromDigit : List ℕ → List ℕ
+fromDigit [] = []
+fromDigit (b ∷ bs) = cond (isDigit b) (b ∷ bs) (fromDigit bs)
+
+-- Class, rows and columns: none is a scalar; with an `x` a matrix, which comes back as class 3; else a vector.
+abbrev pub Shape : Type 0
+Shape = ℕ × (ℕ × ℕ)
+
+abbrev pub shapeOf : List ℕ → Option (List ℕ × List ℕ) → Option Shape
+shapeOf dims (some p) = do
+  rows ← number (p .0)
+  columns ← number (p .1)
+  some (3, (rows, columns))
+shapeOf dims none = do
+  columns ← number dims
+  some (1, (1, columns))
+
+abbrev pub shape : List ℕ → Option Shape
+shape [] = some (0, (1, 1))
+shape (b ∷ bs) = shapeOf (b ∷ bs) (splitOnce 120 (b ∷ bs))
+
+unfoldable pub core : List ℕ → ℕ → Option TypeSpelling
+core text elements = do
+  base ← baseNumber (beforeDigit text)
+  s ← shape (fromDigit text)
+  some (record { class = s .0; base = base; rows = s .1 .0; columns = s .1 .1; elements = elements })
+
+abbrev pub typeFrom : List ℕ → Option (List ℕ × List ℕ) → Option TypeSpelling
+typeFrom text none = core text 0
+typeFrom text (some p) = do
+  inner ← withoutLast 93 (p .1)
+  elements ← number inner
+  core (p .0) elements
+
+-- `parse_hlsl_type`.
+unfoldable pub parseType : List ℕ → Option TypeSpelling
+parseType text = typeFrom text (splitOnce 91 text)
+
+-- The answer's two cases: the five numbers, or 18.
+unfoldable pub spelledType : Option TypeSpelling → SpelledType
+spelledType (some s) = Understood s
+spelledType none = Refused (because 18)
+
+-- What follows states the parts of the reading that have a function of their own in the code.
+
+-- The index of the first byte from low to high; the length where there is none.
+unfoldable pub firstBetween : ℕ → ℕ → List ℕ → ℕ
+firstBetween low high [] = 0
+firstBetween low high (b ∷ bs) = cond (leb low b && leb b high) 0 (suc (firstBetween low high bs))
+
+-- One digit or more, below 65,536.
+abbrev pub digitsBelow65536 : List ℕ → Option ℕ
+digitsBelow65536 digits = do
+  n ← digitsNumber digits
+  below65536 n
+
+-- The number of elements, from what follows the first '['.
+unfoldable pub elementsOf : List ℕ → Option ℕ
+elementsOf rest = do
+  inner ← withoutLast 93 rest
+  number inner
+
+-- A base and a number of elements with the shape that the dimensions give.
+abbrev pub withShape : ℕ → ℕ → Option Shape → Option TypeSpelling
+withShape base elements found = do
+  s ← found
+  some (record { class = s .0; base = base; rows = s .1 .0; columns = s .1 .1; elements = elements })
+
+-- A number, or none, as the code's answer.
+abbrev pub numberRead : Option ℕ → Number
+numberRead (some n) = Value n
+numberRead none = NotUnderstood
+
+-- A type by its numbers, if rows and columns were understood.
+unfoldable pub withNumbers : ℕ → ℕ → Number → Number → ℕ → SpelledType
+withNumbers class base (Value rows) (Value columns) elements =
+    Understood (record { class = class; base = base; rows = rows; columns = columns; elements = elements })
+withNumbers class base (Value rows) NotUnderstood elements = Refused (because 18)
+withNumbers class base NotUnderstood columns elements = Refused (because 18)

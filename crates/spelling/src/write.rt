@@ -1,0 +1,204 @@
+// The spelling of a type, and the declaration line of a variable, written to a lent output.
+ghost use mathlib.Core.Path.{_≡_};
+ghost use mathlib.Core.Bool.{true};
+ghost use mathlib.Core.List.{[], _∷_, _++_};
+ghost use Prim.Native.Nat.{_+_, _≤_, _<_, _^_};
+ghost use lib.ListN.{length};
+ghost use Rattle.words.specs.Splice.{Put};
+ghost use Rattle.emit.specs.Written.{farthest, fitting, writtenOf, outputOf};
+ghost use Rattle.spelling.specs.Names.{baseName};
+ghost use Rattle.spelling.specs.Spelling.{printable, fieldsFit, byName, isSpelled, bytesOf, dimensions, arraySuffix, typeSpelling, typeName, declaration};
+use emit::Written;
+use emit::put_byte;
+use emit::put_bytes;
+use emit::put_decimal;
+use reflection::Text;
+use reflection::TypeDesc;
+
+// Whether a name can be printed: in place, and UTF-8.
+fn printable<'a>(chunk: &'a [u8], edits: &'a [u8], name: Text) -> bool
+    ensures { λ r. ⌜ r ≡ printable (now (chunk .entry)) (now (edits .entry)) name ⌝ }
+{
+    if reflection::in_place(chunk, edits, name) {
+        return text::utf8_ok(reflection::name_part(chunk, edits, name));
+    }
+    false
+}
+
+// Whether the 16-bit fields are below 65,536.
+fn fields_fit(t: TypeDesc) -> bool
+    ensures { λ r. ⌜ r ≡ fieldsFit t ⌝ }
+{
+    t.class < 65536
+        && (t.var_type < 65536
+            && (t.rows < 65536
+                && (t.columns < 65536 && (t.elements < 65536 && t.member_count < 65536))))
+}
+
+// Whether a type goes by its own name.
+fn by_name(t: TypeDesc) -> bool
+    ensures { λ r. ⌜ r ≡ byName t ⌝ }
+{
+    t.member_count > 0 || t.class == 5
+}
+
+// Whether a base type has a name.
+fn has_base_name(base: u32) -> bool
+    ensures { λ r. ⌜ r ≡ isSpelled (baseName base) ⌝ }
+{
+    match base {
+        1 => true,
+        2 => true,
+        3 => true,
+        19 => true,
+        39 => true,
+        _ => false,
+    }
+}
+
+// Whether a type with that name has a spelling.
+fn has_spelling(name: &[u8], t: TypeDesc) -> bool
+    ensures { λ r. ⌜ r ≡ isSpelled (typeSpelling (now (name .entry)) t) ⌝ }
+{
+    if by_name(t) {
+        return name.len() > 0;
+    }
+    if has_base_name(t.var_type) {
+        return t.class < 4;
+    }
+    false
+}
+
+// Writes the name of a base type; nothing where it has none.
+fn put_base(out: &mut [u8], at: usize, base: u32) -> usize
+    requires { ⌜ at ≤ farthest ⌝ }
+    ensures text { λ r. ⌜ Put (now (out .entry)) at (bytesOf (baseName base)) (now (out .exit)) r ⌝ }
+    ensures near { λ r. ⌜ r ≤ at + 6 ⌝ }
+{
+    if base == 1 {
+        return put_bytes(out, at, b"bool");
+    }
+    if base == 2 {
+        return put_bytes(out, at, b"int");
+    }
+    if base == 3 {
+        return put_bytes(out, at, b"float");
+    }
+    if base == 19 {
+        return put_bytes(out, at, b"uint");
+    }
+    if base == 39 {
+        return put_bytes(out, at, b"double");
+    }
+    at
+}
+
+// Writes what follows the base: nothing for a scalar, the columns of a vector, rows, `x` and columns of a matrix.
+fn put_dimensions(out: &mut [u8], at: usize, class: u32, rows: u32, columns: u32) -> usize
+    requires { ⌜ at + 21 ≤ farthest ⌝ }
+    ensures text { λ r. ⌜ Put (now (out .entry)) at (bytesOf (dimensions class rows columns)) (now (out .exit)) r ⌝ }
+    ensures near { λ r. ⌜ r ≤ at + 21 ⌝ }
+{
+    if class == 0 {
+        return at;
+    }
+    if class == 1 {
+        return put_decimal(out, at, columns);
+    }
+    if class < 4 {
+        let after_rows = put_decimal(out, at, rows);
+        let after_x = put_byte(out, after_rows, b'x');
+        return put_decimal(out, after_x, columns);
+    }
+    at
+}
+
+// Writes `[N]` where there are elements.
+fn put_suffix(out: &mut [u8], at: usize, elements: u32) -> usize
+    requires { ⌜ at + 12 ≤ farthest ⌝ }
+    ensures text { λ r. ⌜ Put (now (out .entry)) at (arraySuffix elements) (now (out .exit)) r ⌝ }
+    ensures near { λ r. ⌜ r ≤ at + 12 ⌝ }
+{
+    if elements == 0 {
+        return at;
+    }
+    let opened = put_byte(out, at, b'[');
+    let counted = put_decimal(out, opened, elements);
+    put_byte(out, counted, b']')
+}
+
+// Writes the spelling of a type with that name, which has one.
+fn put_spelling(out: &mut [u8], at: usize, name: &[u8], t: TypeDesc) -> usize
+    requires room { ⌜ at + 39 ≤ farthest ⌝ }
+    requires spelled { ⌜ isSpelled (typeSpelling (now name) t) ≡ true ⌝ }
+    ensures text { λ r. ⌜ Put (now (out .entry)) at (bytesOf (typeSpelling (now (name .entry)) t)) (now (out .exit)) r ⌝ }
+    ensures near { λ r. ⌜ r ≤ at + 39 + length (now (name .entry)) ⌝ }
+{
+    if by_name(t) {
+        return put_bytes(out, at, name);
+    }
+    let base = put_base(out, at, t.var_type);
+    let core = put_dimensions(out, base, t.class, t.rows, t.columns);
+    put_suffix(out, core, t.elements)
+}
+
+// Writes the declaration of a variable: the spelling of its type, a space, its name and a semicolon.
+fn put_declaration(out: &mut [u8], type_name: &[u8], t: TypeDesc, name: &[u8]) -> usize
+    requires room { ⌜ (length (now «type_name») < 2 ^ 32) × (length (now name) < 2 ^ 32) ⌝ }
+    requires spelled { ⌜ isSpelled (typeSpelling (now «type_name») t) ≡ true ⌝ }
+    ensures { λ r. ⌜ Put (now (out .entry)) 0 (bytesOf (typeSpelling (now («type_name» .entry)) t) ++ (32 ∷ (now (name .entry) ++ (59 ∷ [])))) (now (out .exit)) r ⌝ }
+{
+    let spelled = put_spelling(out, 0, type_name, t);
+    let spaced = put_byte(out, spelled, b' ');
+    let named = put_bytes(out, spaced, name);
+    put_byte(out, named, b';')
+}
+
+// `hlsl_type_name`: the spelling of a type.
+pub fn hlsl_type_name<'a>(chunk: &'a [u8], edits: &'a [u8], t: TypeDesc, out: &mut [u8]) -> Written
+    ensures answer { λ r. ⌜ r ≡ writtenOf (fitting (length (now (out .entry))) (typeName (now (chunk .entry)) (now (edits .entry)) t)) ⌝ }
+    ensures out { λ _. ⌜ now (out .exit) ≡ outputOf (fitting (length (now (out .entry))) (typeName (now (chunk .entry)) (now (edits .entry)) t)) (now (out .entry)) ⌝ }
+{
+    let own = t.name;
+    if !printable(chunk, edits, own) {
+        return emit::refuse(out, 16);
+    }
+    if !fields_fit(t) {
+        return emit::refuse(out, 16);
+    }
+    let name = reflection::name_part(chunk, edits, own);
+    if !has_spelling(name, t) {
+        return emit::refuse(out, 18);
+    }
+    let end = put_spelling(out, 0, name, t);
+    emit::finish(out, end)
+}
+
+// The declaration line of a variable with that type and name.
+pub fn declaration<'a>(
+    chunk: &'a [u8],
+    edits: &'a [u8],
+    t: TypeDesc,
+    name: Text,
+    out: &mut [u8],
+) -> Written
+    ensures answer { λ r. ⌜ r ≡ writtenOf (fitting (length (now (out .entry))) (declaration (now (chunk .entry)) (now (edits .entry)) t name)) ⌝ }
+    ensures out { λ _. ⌜ now (out .exit) ≡ outputOf (fitting (length (now (out .entry))) (declaration (now (chunk .entry)) (now (edits .entry)) t name)) (now (out .entry)) ⌝ }
+{
+    let own = t.name;
+    if !printable(chunk, edits, own) {
+        return emit::refuse(out, 16);
+    }
+    if !fields_fit(t) {
+        return emit::refuse(out, 16);
+    }
+    if !printable(chunk, edits, name) {
+        return emit::refuse(out, 16);
+    }
+    let type_name = reflection::name_part(chunk, edits, own);
+    if !has_spelling(type_name, t) {
+        return emit::refuse(out, 18);
+    }
+    let end = put_declaration(out, type_name, t, reflection::name_part(chunk, edits, name));
+    emit::finish(out, end)
+}
