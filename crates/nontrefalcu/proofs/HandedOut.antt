@@ -1,4 +1,5 @@
--- The number and the header's words that are handed out are those of the outcome: the reader's answer says which outcome there was.
+-- The number and the words that are handed out are those of the outcome: a value leaves 0 and its words on cleared ones, a refusal its number and
+-- the cleared words.
 use mathlib.Core.Path.{_≡_, refl, ap, _∙_}
 use mathlib.Core.List.{List}
 use Prim.Native.Nat.{ℕ}
@@ -14,28 +15,42 @@ use Rattle.reflection.specs.Tables.{headerOf}
 use Rattle.reader.specs.declared.Parsed.{Parsed}
 use Rattle.reader.specs.declared.Parsed.the-variants.{Read, Refused}
 use Rattle.reader.specs.Parsed.{parsedOf}
-use Rattle.nontrefalcu.specs.Exports.{numberOf, headerWords, headerTable}
+use Rattle.nontrefalcu.specs.Exports.{numberOf, resultTable, headerWords, headerTable}
 
+module _ {A : Type 0} {out : Outcome A} where
+  pub value-number : {x : A} → out ≡ ok x → 0 ≡ numberOf out
+  unfolding numberOf
+  value-number value = rw value
+
+  pub refused-number : {e : Refusal} → out ≡ refused e → e .number ≡ numberOf out
+  unfolding numberOf
+  refused-number refusal = rw refusal
+
+  module _ (words : A → List ℕ) (n : ℕ) {cleared : List ℕ} (zeros : cleared ≡ replicate n 0) where
+    pub value-table : {x : A} {put result : List ℕ} → out ≡ ok x → put ≡ words x → result ≡ splice cleared 0 put → result ≡ resultTable words out n
+    unfolding resultTable
+    value-table value same written = rw value (written ∙ λ i. splice (zeros i) 0 (same i))
+
+    pub refused-table : {e : Refusal} → out ≡ refused e → cleared ≡ resultTable words out n
+    unfolding resultTable
+    refused-table refusal = rw refusal zeros
+
+-- the reader's answer says which outcome there was
 module _ {r : Parsed} where
-  pub refused-number : (out : Outcome (ResourceDef Text Text)) (e : Refusal) → r ≡ Refused e → r ≡ parsedOf out → e .number ≡ numberOf out
-  unfolding parsedOf numberOf
-  refused-number (ok def) e refusal answer = absurd (let apart : _≡_ {A = ℕ} 0 1 = cc in omega arith)
-  refused-number (refused d) e refusal answer = let same : e ≡ d = cc in ap (λ (x : Refusal). x .number) same
+  pub parsed-refused : (out : Outcome (ResourceDef Text Text)) {e : Refusal} → r ≡ parsedOf out → r ≡ Refused e → out ≡ refused e
+  unfolding parsedOf
+  parsed-refused (ok def) answer refusal = absurd (let apart : _≡_ {A = ℕ} 0 1 = cc in omega arith)
+  parsed-refused (refused d) {e} answer refusal = let same : d ≡ e = cc in ap refused same
 
-  pub refused-header : (out : Outcome (ResourceDef Text Text)) (n : ℕ) (e : Refusal) {header : List ℕ}
-      → r ≡ Refused e → r ≡ parsedOf out → header ≡ replicate n 0 → header ≡ headerTable out n
-  unfolding parsedOf headerTable
-  refused-header (ok def) n e refusal answer zeros = absurd (let apart : _≡_ {A = ℕ} 0 1 = cc in omega arith)
-  refused-header (refused d) n e refusal answer zeros = zeros
+  pub read-number : (out : Outcome (ResourceDef Text Text)) {h : Header} → r ≡ parsedOf out → r ≡ Read h → 0 ≡ numberOf out
+  unfolding parsedOf
+  read-number (ok def) answer read = value-number refl
+  read-number (refused d) answer read = absurd (let apart : _≡_ {A = ℕ} 0 1 = cc in omega arith)
 
-  pub read-number : (out : Outcome (ResourceDef Text Text)) (h : Header) → r ≡ Read h → r ≡ parsedOf out → 0 ≡ numberOf out
-  unfolding parsedOf numberOf
-  read-number (ok def) h read answer = refl
-  read-number (refused d) h read answer = absurd (let apart : _≡_ {A = ℕ} 0 1 = cc in omega arith)
-
-  pub read-header : (out : Outcome (ResourceDef Text Text)) (n : ℕ) (h : Header) {cleared words header : List ℕ}
-      → r ≡ Read h → r ≡ parsedOf out → cleared ≡ replicate n 0 → words ≡ headerWords h → header ≡ splice cleared 0 words → header ≡ headerTable out n
-  unfolding parsedOf headerTable
-  read-header (ok def) n h read answer zeros twelve put =
-      let same : h ≡ headerOf def = cc in put ∙ λ i. splice (zeros i) 0 ((twelve ∙ ap headerWords same) i)
-  read-header (refused d) n h read answer zeros twelve put = absurd (let apart : _≡_ {A = ℕ} 0 1 = cc in omega arith)
+  pub read-header : (out : Outcome (ResourceDef Text Text)) (n : ℕ) {h : Header} {cleared put header : List ℕ} → r ≡ parsedOf out → r ≡ Read h
+      → cleared ≡ replicate n 0 → put ≡ headerWords h → header ≡ splice cleared 0 put → header ≡ headerTable out n
+  unfolding parsedOf
+  read-header (ok def) n {h} answer read zeros twelve put =
+      let same : h ≡ headerOf def = cc in
+      value-table (λ (d : ResourceDef Text Text). headerWords (headerOf d)) n zeros refl (twelve ∙ ap headerWords same) put
+  read-header (refused d) n answer read zeros twelve put = absurd (let apart : _≡_ {A = ℕ} 0 1 = cc in omega arith)

@@ -1,2 +1,3 @@
 -- Laws of what is handed to C and Rust.
 mod HandedOut
+mod WrittenText

@@ -1,59 +1,9 @@
 // What C and Rust link: the proved library's functions, with numbers and slices only.
-ghost use mathlib.Core.Path.{_≡_};
-ghost use lib.ListN.{length};
-ghost use Rattle.reflection.specs.Tables.{bindingRows, bufferRows, variableRows, typeRows, table};
-ghost use Rattle.reader.specs.Parsed.{readInto};
-ghost use Rattle.nontrefalcu.specs.Exports.{numberOf, headerWords, headerTable};
-use reader::Parsed;
-use reflection::ResourceDef;
+mod answer;
+mod read;
+mod spell;
 
-// The header's twelve words.
-fn header_words(def: ResourceDef) -> [u32; 12]
-    ensures { λ r. ⌜ r ≡ headerWords def ⌝ }
-{
-    let creator = def.creator;
-    let rd11 = def.rd11;
-    [
-        def.target_version,
-        def.compile_flags,
-        creator.source,
-        creator.place,
-        creator.length,
-        rd11.identifier,
-        rd11.resource_binding_stride,
-        rd11.interface_slot_count,
-        def.binding_count,
-        def.buffer_count,
-        def.variable_count,
-        def.type_count,
-    ]
-}
-
-// `reader::parse_rdef` with its answer as numbers: 0, and the header's words in `header`; or the refusal's number, and zeros everywhere.
-#[no_mangle]
-pub extern "C" fn nontrefalcu_parse_rdef(
-    chunk: &[u8],
-    header: &mut [u32],
-    bindings: &mut [u32],
-    buffers: &mut [u32],
-    variables: &mut [u32],
-    types: &mut [u32],
-) -> u32
-    ensures answer { λ r. ⌜ r ≡ numberOf (readInto (now (chunk .entry)) (now (bindings .entry)) (now (buffers .entry)) (now (variables .entry)) (now (types .entry))) ⌝ }
-    ensures header { λ _. ⌜ now (header .exit) ≡ headerTable (readInto (now (chunk .entry)) (now (bindings .entry)) (now (buffers .entry)) (now (variables .entry)) (now (types .entry))) (length (now (header .entry))) ⌝ }
-    ensures bindings { λ _. ⌜ now (bindings .exit) ≡ table bindingRows (readInto (now (chunk .entry)) (now (bindings .entry)) (now (buffers .entry)) (now (variables .entry)) (now (types .entry))) (length (now (bindings .entry))) ⌝ }
-    ensures buffers { λ _. ⌜ now (buffers .exit) ≡ table bufferRows (readInto (now (chunk .entry)) (now (bindings .entry)) (now (buffers .entry)) (now (variables .entry)) (now (types .entry))) (length (now (buffers .entry))) ⌝ }
-    ensures variables { λ _. ⌜ now (variables .exit) ≡ table variableRows (readInto (now (chunk .entry)) (now (bindings .entry)) (now (buffers .entry)) (now (variables .entry)) (now (types .entry))) (length (now (variables .entry))) ⌝ }
-    ensures types { λ _. ⌜ now (types .exit) ≡ table typeRows (readInto (now (chunk .entry)) (now (bindings .entry)) (now (buffers .entry)) (now (variables .entry)) (now (types .entry))) (length (now (types .entry))) ⌝ }
-{
-    words::clear(header);
-    let parsed = reader::parse_rdef(chunk, bindings, buffers, variables, types);
-    match parsed {
-        Parsed::Refused(refusal) => refusal.number,
-        Parsed::Read(def) => {
-            let twelve = header_words(def);
-            words::put_words(header, 0, &twelve);
-            0
-        }
-    }
-}
+pub use read::nontrefalcu_parse_rdef;
+pub use spell::nontrefalcu_declaration;
+pub use spell::nontrefalcu_parse_type;
+pub use spell::nontrefalcu_type_name;

@@ -1,9 +1,9 @@
 -- `nontrefalcu_parse_rdef` meets its contract: the tables are as the reader left them, and its answer gives the number and the header's words.
 use borrow.Author.Needs.{needs}
 use mathlib.Core.Path.{_∙_}
-use Rattle.nontrefalcu.proofs.HandedOut.{refused-number, refused-header, read-number, read-header}
-use Rattle.nontrefalcu.proofs.nontrefalcu_parse_rdef.Statement.{statement}
-use Rattle.nontrefalcu.proofs.nontrefalcu_parse_rdef.Tie as tie
+use Rattle.nontrefalcu.proofs.HandedOut.{refused-number, refused-table, parsed-refused, read-number, read-header}
+use Rattle.nontrefalcu.proofs.read.nontrefalcu_parse_rdef.Statement.{statement}
+use Rattle.nontrefalcu.proofs.read.nontrefalcu_parse_rdef.Tie as tie
 
 clear-requires : tie.Need-clear-requires
 clear-requires c κs = search needs
@@ -45,10 +45,9 @@ returns : tie.Need-returns
 returns c =
     let refusal = c .before .parsed .given in
     let reading = c .before .before .before .before .before .before .before .before .before .before .before in
-    let zeros = reading .before .before .before .before .before .before .before .clear .ensures in (
-      refused-number _ (refusal .0 .0) (refusal .1) (reading .parse-rdef .ensures .0),
-      (refused-header _ _ (refusal .0 .0) (refusal .1) (reading .parse-rdef .ensures .0) zeros, reading .parse-rdef .ensures .1),
-    )
+    let zeros = reading .before .before .before .before .before .before .before .clear .ensures in
+    let outcome = parsed-refused _ (reading .parse-rdef .ensures .0) (refusal .1) in
+    (refused-number outcome, (refused-table _ _ zeros outcome, reading .parse-rdef .ensures .1))
 
 same-length-6 : tie.Need-same-length-6
 same-length-6 c = c .before .before .put-words .kept .0 ∙ c .before .before .before .before .before .before .before .before .before .before .before .before .before .before .before .before .before .before .before .before .before .before .before .before .clear .kept .0
@@ -72,8 +71,8 @@ returns-2 c =
     let read = c .before .before .before .before .before .before .before .parsed2 .given in
     let reading = c .before .before .before .before .before .before .before .before .before .before .before .before .before .before .before .before .before in
     let zeros = reading .before .before .before .before .before .before .before .clear .ensures in (
-      read-number _ (read .0 .0) (read .1) (reading .parse-rdef .ensures .0),
-      (read-header _ _ (read .0 .0) (read .1) (reading .parse-rdef .ensures .0) zeros twelve put, reading .parse-rdef .ensures .1),
+      read-number _ (reading .parse-rdef .ensures .0) (read .1),
+      (read-header _ _ (reading .parse-rdef .ensures .0) (read .1) zeros twelve put, reading .parse-rdef .ensures .1),
     )
 
 pub nontrefalcu-parse-rdef-spec : {M : Type 1} → statement M

@@ -1,8 +1,8 @@
 -- `header_words`: the array is the definition's list.
 use mathlib.Core.Path.{refl}
 use Rattle.nontrefalcu.specs.Exports.{headerWords}
-use Rattle.nontrefalcu.proofs.header_words.Statement.{statement}
-use Rattle.nontrefalcu.proofs.header_words.Tie as tie
+use Rattle.nontrefalcu.proofs.read.header_words.Statement.{statement}
+use Rattle.nontrefalcu.proofs.read.header_words.Tie as tie
 
 returns : tie.Need-returns
 unfolding headerWords

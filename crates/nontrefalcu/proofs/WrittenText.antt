@@ -1,0 +1,52 @@
+-- A written text's answer gives the number and the length of its outcome; the length is at most 65,536, since `fitting` lets no longer text pass.
+use mathlib.Core.Path.{_≡_, refl, ap, _∙_}
+use mathlib.Core.Bool.{Bool, true, false, cond}
+use mathlib.Core.List.{List}
+use Prim.Native.Nat.{ℕ, min, _≤_}
+use native.Mathlib.Omega.{arith}
+use borrow.Author.Tests.{leb-true}
+use lib.Dec.{leb}
+use lib.ListN.{length}
+use Rattle.reflection.specs.Outcome.{Outcome, ok, refused, because}
+use Rattle.emit.specs.declared.Written.{Written}
+use Rattle.emit.specs.declared.Written.the-variants.{Wrote}
+use Rattle.emit.specs.Written.{fitting, writtenOf, outputOf}
+use Rattle.nontrefalcu.specs.Exports.{numberOf, resultTable, oneWord, lengthTable, writtenLength, LengthFits}
+
+written-number : (out : Outcome (List ℕ)) → numberOf (writtenLength (writtenOf out)) ≡ numberOf out
+unfolding writtenOf writtenLength numberOf
+written-number (ok bytes) = refl
+written-number (refused e) = refl
+
+written-table : (out : Outcome (List ℕ)) (n : ℕ) → resultTable oneWord (writtenLength (writtenOf out)) n ≡ lengthTable out n
+unfolding writtenOf writtenLength resultTable
+written-table (ok bytes) n = refl
+written-table (refused e) n = refl
+
+fits-by-test : (room : ℕ) (bytes : List ℕ) (fits : Bool) → leb (length bytes) (min room 65536) ≡ fits
+    → LengthFits (writtenOf (cond fits (ok bytes) (refused (because 17))))
+unfolding writtenOf
+fits-by-test room bytes true h = omega (arith, leb-true (length bytes) (min room 65536) h)
+fits-by-test room bytes false h = tt
+
+fitting-fits : (room : ℕ) (out : Outcome (List ℕ)) → LengthFits (writtenOf (fitting room out))
+unfolding fitting writtenOf
+fitting-fits room (ok bytes) = fits-by-test room bytes (leb (length bytes) (min room 65536)) refl
+fitting-fits room (refused e) = tt
+
+module _ {written : Written} where
+  pub length-fits : (room : ℕ) (out : Outcome (List ℕ)) → written ≡ writtenOf (fitting room out) → LengthFits written
+  length-fits room out answer = rw answer (fitting-fits room out)
+
+  pub wrote-fits : {n : ℕ} → LengthFits written → written ≡ Wrote n → n ≤ 65536
+  wrote-fits fits wrote = rw wrote at fits
+
+  -- what the writing function and `hand_length` ensure, for the outcome that was asked for
+  module _ {out asked : Outcome (List ℕ)} (same : out ≡ asked) (lent : List ℕ) (n : ℕ) {r : ℕ} {bytes words : List ℕ} where
+    pub handed-out : (written ≡ writtenOf out) × (bytes ≡ outputOf out lent)
+        → (r ≡ numberOf (writtenLength written)) × (words ≡ resultTable oneWord (writtenLength written) n)
+        → (r ≡ numberOf asked) × ((bytes ≡ outputOf asked lent) × (words ≡ lengthTable asked n))
+    handed-out wrote handed =
+        let number = ap (λ (w : Written). numberOf (writtenLength w)) (wrote .0) ∙ written-number out in
+        let table = ap (λ (w : Written). resultTable oneWord (writtenLength w) n) (wrote .0) ∙ written-table out n in
+        rw (← same) (handed .0 ∙ number, (wrote .1, handed .1 ∙ table))

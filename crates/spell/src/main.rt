@@ -1,0 +1,101 @@
+// Reads texts from standard input, a line each, and prints what each spells: class, base, rows, columns and elements, parted by tabs (document 01,
+// "Spelling and listing"). A line feed ends a line, which the last line may lack.
+use libc::STDIN_FILENO;
+use spelling::SpelledType;
+use spelling::TypeSpelling;
+
+// The longest line that is read as a text. A longer one is answered `too long` and no number: leading zeros have no limit, so it may be a spelling.
+const LONGEST: usize = 1048576;
+
+// Prints what a text spells.
+fn put_numbers(out: &mut [u8; 8192], used: &mut usize, t: TypeSpelling) {
+    output::put_decimal(out, used, t.class);
+    output::put_byte(out, used, b'\t');
+    output::put_decimal(out, used, t.base);
+    output::put_byte(out, used, b'\t');
+    output::put_decimal(out, used, t.rows);
+    output::put_byte(out, used, b'\t');
+    output::put_decimal(out, used, t.columns);
+    output::put_byte(out, used, b'\t');
+    output::put_decimal(out, used, t.elements);
+    output::put_byte(out, used, b'\n');
+}
+
+// Answers a line of `length` bytes, all of which stand in `line` unless it is too long.
+fn answer(out: &mut [u8; 8192], used: &mut usize, line: &[u8], length: usize) {
+    if LONGEST < length {
+        output::put_bytes(out, used, b"too long\n");
+        return;
+    }
+    let spelled = spelling::parse_hlsl_type(words::part(line, 0, length));
+    match spelled {
+        SpelledType::Refused(refusal) => {
+            output::put_refused(out, used, refusal.number);
+        }
+        SpelledType::Understood(t) => {
+            put_numbers(out, used, t);
+        }
+    }
+}
+
+// Answers the lines that end in a block. The block goes on with a line of which `held` bytes came before; it hands back how many there are, after it,
+// of the line that is not ended.
+fn answer_block(
+    out: &mut [u8; 8192],
+    used: &mut usize,
+    line: &mut [u8; 1048576],
+    held: usize,
+    block: &[u8],
+) -> usize {
+    let mut n = held;
+    let mut i = 0;
+    while i < block.len() {
+        let b = block[i];
+        if b == b'\n' {
+            answer(out, used, line, n);
+            n = 0;
+        } else if n < LONGEST {
+            line[n] = b;
+            n += 1;
+        } else {
+            n = LONGEST + 1;
+        }
+        i += 1;
+    }
+    n
+}
+
+// Reads once, and answers the lines that end there. False where the input has ended.
+fn answer_some(
+    out: &mut [u8; 8192],
+    used: &mut usize,
+    line: &mut [u8; 1048576],
+    held: &mut usize,
+) -> bool {
+    let mut block = io::large_buffer();
+    let got = libc::read(STDIN_FILENO, &mut block);
+    let n = io::count(got, &block);
+    *held = answer_block(out, used, line, *held, &block[..n]);
+    output::flush(out, used);
+    0 < n
+}
+
+// Answers every line. A proved loop has to end, and nothing says that the input does, so it counts its turns down from a number that no run uses up.
+fn answer_all(line: &mut [u8; 1048576]) {
+    let mut out = [0u8; 8192];
+    let mut used: usize = 0;
+    let mut held: usize = 0;
+    let mut turns = u64::MAX;
+    while 0 < turns && answer_some(&mut out, &mut used, line, &mut held) {
+        turns -= 1;
+    }
+    if 0 < held {
+        answer(&mut out, &mut used, line, held);
+    }
+    output::flush(&out, &mut used);
+}
+
+fn main() {
+    let mut line = [0u8; 1048576];
+    answer_all(&mut line);
+}
