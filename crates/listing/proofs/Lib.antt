@@ -1,0 +1,5 @@
+pub mod Padding
+pub mod Tables
+pub mod Joined
+pub mod Listed
+pub mod Examples
