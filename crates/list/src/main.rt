@@ -1,0 +1,92 @@
+// Reads a chunk from standard input and prints each of its bindings as a listed line (document 01, "Spelling and listing").
+use emit::Written;
+use libc::STDIN_FILENO;
+use reader::Parsed;
+use reflection::ResourceBinding;
+
+// The line of a binding, or why it has none. A line is made in `line`.
+fn binding_line(
+    out: &mut [u8; 8192],
+    used: &mut usize,
+    line: &mut [u8; 65536],
+    chunk: &[u8],
+    b: ResourceBinding,
+) {
+    let written = listing::list_binding(chunk, chunk, b, line);
+    match written {
+        Written::Refused(refusal) => {
+            output::put_refused(out, used, refusal.number);
+        }
+        Written::Wrote(n) => {
+            output::put_bytes(out, used, words::part(line, 0, n));
+            output::put_byte(out, used, b'\n');
+        }
+    }
+}
+
+// The lines of the first `count` bindings.
+fn binding_lines(
+    out: &mut [u8; 8192],
+    used: &mut usize,
+    chunk: &[u8],
+    bindings: &[u32],
+    count: usize,
+) {
+    let mut line = [0u8; 65536];
+    let mut i: usize = 0;
+    while i < count {
+        binding_line(
+            out,
+            used,
+            &mut line,
+            chunk,
+            reflection::binding_at(bindings, i),
+        );
+        i += 1;
+    }
+}
+
+// Prints the bindings of the chunk, or why it was refused.
+fn list(
+    chunk: &[u8],
+    bindings: &mut [u32; 12288],
+    buffers: &mut [u32; 448],
+    variables: &mut [u32; 26624],
+    types: &mut [u32; 69632],
+) {
+    let mut out = [0u8; 8192];
+    let mut used: usize = 0;
+    let parsed = reader::parse_rdef(chunk, bindings, buffers, variables, types);
+    match parsed {
+        Parsed::Refused(refusal) => {
+            output::put_refused(&mut out, &mut used, refusal.number);
+        }
+        Parsed::Read(def) => {
+            binding_lines(
+                &mut out,
+                &mut used,
+                chunk,
+                bindings,
+                def.binding_count as usize,
+            );
+        }
+    }
+    output::flush(&out, &mut used);
+}
+
+// The tables have document 01's whole room. One byte more than the longest chunk is read, so that a longer one is seen.
+fn main() {
+    let mut chunk = [0u8; 65537];
+    let n = io::read_full(STDIN_FILENO, &mut chunk);
+    let mut bindings = [0u32; 12288];
+    let mut buffers = [0u32; 448];
+    let mut variables = [0u32; 26624];
+    let mut types = [0u32; 69632];
+    list(
+        &chunk[..n],
+        &mut bindings,
+        &mut buffers,
+        &mut variables,
+        &mut types,
+    );
+}
