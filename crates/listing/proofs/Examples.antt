@@ -10,7 +10,7 @@ use Rattle.reflection.specs.declared.ResourceBinding.{ResourceBinding}
 use Rattle.reflection.specs.Outcome.{Outcome, ok, refused, because}
 use Rattle.reflection.specs.Texts.{inChunk, inPlace, textBytes}
 use Rattle.emit.specs.Digits.{digitsBefore, decimal, hex}
-use Rattle.listing.specs.Names.{ascii}
+use Rattle.emit.specs.Ascii.{ascii}
 use Rattle.listing.specs.Listing.{scalars, padTo, setNames, flagsPart, columns, listed}
 
 -- a binding with a name, an input type, a dimension, a slot, a count and flags

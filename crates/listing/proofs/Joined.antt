@@ -10,7 +10,8 @@ use lib.ListN.{length}
 use Rattle.words.specs.Splice.{Put, put-then}
 use Rattle.codes.specs.Flags.{flag}
 use Rattle.emit.specs.Digits.{hex}
-use Rattle.listing.specs.Names.{ascii, flagNames}
+use Rattle.emit.specs.Ascii.{ascii}
+use Rattle.listing.specs.Names.{flagNames}
 use Rattle.listing.specs.Listing.{joinedBy, setNames, orHex, flagsPart}
 
 pub joined-nil : (c : ℕ) (a : List ℕ) → joinedBy c a [] ≡ a

@@ -9,7 +9,8 @@ use Rattle.reflection.specs.declared.ResourceBinding.{ResourceBinding}
 use Rattle.reflection.specs.Outcome.{Outcome, ok, refused, because}
 use Rattle.reflection.specs.Texts.{inPlace, textBytes}
 use Rattle.emit.specs.Digits.{decimal, hex}
-use Rattle.listing.specs.Names.{ascii, inputTypeNames, dimensionNames, unknown, notApplicable, flagNames}
+use Rattle.emit.specs.Ascii.{ascii}
+use Rattle.listing.specs.Names.{inputTypeNames, dimensionNames, unknown, notApplicable, flagNames}
 
 -- How many Unicode scalar values well-formed UTF-8 has: as many as bytes that do not continue a sequence (80..BF).
 unfoldable pub scalars : List ℕ → ℕ

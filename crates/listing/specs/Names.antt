@@ -1,13 +1,7 @@
 -- The names that a listing has for codes and flags: the Rust's `name` functions and `write_flags`.
 use mathlib.Core.List.{List, [], _∷_}
 use Prim.Native.Nat.{ℕ}
-use Prim.Native.Char.{code}
-use Prim.Native.String.{String, [] as empty, _∷_ as _then_}
-
--- The bytes of a text whose characters are all below 0x80.
-abbrev pub ascii : String → List ℕ
-ascii empty = []
-ascii (c then s) = code c ∷ ascii s
+use Rattle.emit.specs.Ascii.{ascii}
 
 -- Input types 0 to 13.
 abbrev pub inputTypeNames : List (List ℕ)

@@ -7,7 +7,7 @@ use Rattle.reflection.specs.declared.Text.{Text}
 use Rattle.reflection.specs.declared.ResourceDef.{ResourceDef as Header}
 use Rattle.reflection.specs.Outcome.{Outcome, ok, refused}
 use Rattle.reflection.specs.Reflection.{ResourceDef}
-use Rattle.reflection.specs.Records.{typeAt, variableAt}
+use Rattle.reflection.specs.Records.{bindingAt, typeAt, variableAt}
 use Rattle.reflection.specs.Tables.{headerOf}
 use Rattle.emit.specs.declared.Written.{Written}
 use Rattle.emit.specs.declared.Written.the-variants.{Wrote, Refused}
@@ -17,6 +17,7 @@ use Rattle.spelling.specs.declared.SpelledType.{SpelledType}
 use Rattle.spelling.specs.declared.SpelledType.the-variants.{Understood, Refused as NotUnderstood}
 use Rattle.spelling.specs.Spelling.{typeName, declaration}
 use Rattle.spelling.specs.Grammar.{parseType, spelledType}
+use Rattle.listing.specs.Listing.{listed}
 
 -- 0 for a value, else the refusal's number.
 unfoldable pub numberOf : {A : Type 0} → Outcome A → ℕ
@@ -73,6 +74,10 @@ typeNameInto chunk edits types out = fitting (length out) (typeName chunk edits 
 -- The declaration line of the variable that is record 0 of a table, with the type that is record 0 of another.
 unfoldable pub declarationInto : List ℕ → List ℕ → List ℕ → List ℕ → List ℕ → Outcome (List ℕ)
 declarationInto chunk edits types variables out = fitting (length out) (declaration chunk edits (typeAt types 0) (variableAt variables 0 .name))
+
+-- The line of the binding that is record 0 of a table.
+unfoldable pub listedInto : List ℕ → List ℕ → List ℕ → List ℕ → Outcome (List ℕ)
+listedInto chunk edits bindings out = fitting (length out) (listed chunk edits (bindingAt bindings 0))
 
 -- What a text spells.
 unfoldable pub typeRead : List ℕ → Outcome TypeSpelling

@@ -5,16 +5,11 @@ use mathlib.Core.Option.{Option, none, some}
 use Prim.Native.Nat.{ℕ}
 use lib.Dec.{eqb}
 use Rattle.text.specs.Same.{sameBytes}
+use Rattle.emit.specs.Ascii.{ascii}
 
--- D3D_SHADER_VARIABLE_TYPE's number and the name: bool, int, float, uint, double.
+-- D3D_SHADER_VARIABLE_TYPE's number, and the name.
 abbrev pub baseNames : List (ℕ × List ℕ)
-baseNames =
-    (1, 98 ∷ 111 ∷ 111 ∷ 108 ∷ [])
-    ∷ (2, 105 ∷ 110 ∷ 116 ∷ [])
-    ∷ (3, 102 ∷ 108 ∷ 111 ∷ 97 ∷ 116 ∷ [])
-    ∷ (19, 117 ∷ 105 ∷ 110 ∷ 116 ∷ [])
-    ∷ (39, 100 ∷ 111 ∷ 117 ∷ 98 ∷ 108 ∷ 101 ∷ [])
-    ∷ []
+baseNames = (1, ascii "bool") ∷ (2, ascii "int") ∷ (3, ascii "float") ∷ (19, ascii "uint") ∷ (39, ascii "double") ∷ []
 
 abbrev pub nameIn : List (ℕ × List ℕ) → ℕ → Option (List ℕ)
 nameIn [] n = none

@@ -1,27 +1,7 @@
-// The file of stored cases: its places, and the case that begins at a place. A place past the file's end is `BEYOND`: what stands there reads as 0,
-// and no place after it is in the file again.
+// The case that begins at a place of the file.
 ghost use Prim.Native.Nat.{_<_};
-
-// The file is shorter than this.
-pub const BEYOND: usize = 4194304;
-
-// The place `n` bytes after `at`.
-pub fn bytes_on(all: &[u8], at: usize, n: usize) -> usize {
-    if at <= all.len() {
-        if n <= all.len() - at {
-            return at + n;
-        }
-    }
-    BEYOND
-}
-
-// The place `n` words after `at`.
-pub fn words_on(all: &[u8], at: usize, n: usize) -> usize {
-    if n < 4294967296 {
-        return bytes_on(all, at, 4 * n);
-    }
-    BEYOND
-}
+use cases_file::bytes_on;
+use cases_file::words_on;
 
 // A stored case: where its chunk lies; the refusal's number, or 0; where its words begin; and how many words the header and each table have.
 pub struct Stored {

@@ -1,34 +1,14 @@
 // One case: the port reads its chunk, and what it leaves is held to what is stored.
 use crate::file::stored_at;
-use crate::file::words_on;
+use cases_file::both;
+use cases_file::holds;
+use cases_file::words_on;
 
 // What the port answered, whether all of it is as stored, and where the next case begins.
 pub struct Replayed {
     pub number: u32,
     pub same: bool,
     pub next: usize,
-}
-
-// Whether the table holds the file's `n` words from `at` on, and zeros after them.
-fn holds(table: &[u32], all: &[u8], at: usize, n: usize) -> bool {
-    let mut from = at;
-    let mut i = 0;
-    while i < table.len() {
-        let mut want: u32 = 0;
-        if i < n {
-            want = words::word_at(all, from);
-            from = words_on(all, from, 1);
-        }
-        if table[i] != want {
-            return false;
-        }
-        i += 1;
-    }
-    n <= table.len()
-}
-
-fn both(a: bool, b: bool) -> bool {
-    if a { b } else { false }
 }
 
 // Replays the case that begins at `at`.

@@ -5,10 +5,13 @@ use Rattle.vectors.proofs.replay_all.Statement.{statement}
 use Rattle.vectors.proofs.replay_all.Tie as tie
 
 abbrev Inv-loop : tie.InvT-loop
-Inv-loop all header₀ bindings₀ buffers₀ variables₀ types₀ out₀ used₀ answers₀ different₀ count at₀ i₀ t15 t16 header bindings buffers variables types out used answers different at i = i ≤ count
+Inv-loop file n header₀ bindings₀ buffers₀ variables₀ types₀ all out₀ used₀ answers₀ different₀ count at₀ i₀ t17 header bindings buffers variables types out used answers different at i = i ≤ count
 
 abbrev μ-loop : tie.MeasureT-loop
-μ-loop all header₀ bindings₀ buffers₀ variables₀ types₀ out₀ used₀ answers₀ different₀ count at₀ i₀ t15 t16 header bindings buffers variables types out used answers different at i = count - i
+μ-loop file n header₀ bindings₀ buffers₀ variables₀ types₀ all out₀ used₀ answers₀ different₀ count at₀ i₀ t17 header bindings buffers variables types out used answers different at i = count - i
+
+part-requires : tie.Need-part-requires Inv-loop μ-loop
+part-requires c κs = search needs
 
 word-at-requires : tie.Need-word-at-requires Inv-loop μ-loop
 word-at-requires c κs = search needs
@@ -46,14 +49,8 @@ loop-again c = search needs
 lines-requires : tie.Need-lines-requires Inv-loop μ-loop
 lines-requires c κs = search needs
 
-slice-aggregate-put-bytes : tie.Need-slice-aggregate-put-bytes Inv-loop μ-loop
-slice-aggregate-put-bytes c = search needs
-
-put-bytes-requires : tie.Need-put-bytes-requires Inv-loop μ-loop
-put-bytes-requires c κs = search needs
-
-flush-requires : tie.Need-flush-requires Inv-loop μ-loop
-flush-requires c κs = search needs
+finish-requires : tie.Need-finish-requires Inv-loop μ-loop
+finish-requires c κs = search needs
 
 returns : tie.Need-returns Inv-loop μ-loop
 returns c = search needs
@@ -64,6 +61,7 @@ replay-all-spec =
     (tie.spec
     Inv-loop
     μ-loop
+    part-requires
     word-at-requires
     bytes-on-requires
     loop-holds
@@ -76,7 +74,5 @@ replay-all-spec =
     loop-less
     loop-again
     lines-requires
-    slice-aggregate-put-bytes
-    put-bytes-requires
-    flush-requires
+    finish-requires
     returns)

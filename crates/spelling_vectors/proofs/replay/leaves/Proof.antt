@@ -1,27 +1,22 @@
--- `holds` is safe and ends: the place stays within the table, and each turn leaves one word less.
+-- `leaves` is safe and ends: each turn goes to the next byte.
 use borrow.Author.Needs.{needs}
-use Prim.Native.Nat.{_-_, _≤_}
+use mathlib.Core.Path.{_≡_}
+use Prim.Native.Nat.{_-_}
 use lib.ListN.{length}
-use Rattle.vectors.proofs.replay.holds.Statement.{statement}
-use Rattle.vectors.proofs.replay.holds.Tie as tie
+use Rattle.spelling_vectors.proofs.replay.leaves.Statement.{statement}
+use Rattle.spelling_vectors.proofs.replay.leaves.Tie as tie
 
 abbrev Inv-loop : tie.InvT-loop
-Inv-loop table all at n from₀ i₀ from i = i ≤ length table
+Inv-loop out text rest i₀ i-end i = i-end ≡ length out
 
 abbrev μ-loop : tie.MeasureT-loop
-μ-loop table all at n from₀ i₀ from i = length table - i
+μ-loop out text rest i₀ i-end i = i-end - i
 
 loop-holds : tie.Need-loop-holds Inv-loop μ-loop
 loop-holds c = search needs
 
-word-at-requires : tie.Need-word-at-requires Inv-loop μ-loop
-word-at-requires c κs = search needs
-
-words-on-requires : tie.Need-words-on-requires Inv-loop μ-loop
-words-on-requires c κs = search needs
-
-mul-if2 : tie.Need-mul-if2 Inv-loop μ-loop
-mul-if2 c = search needs
+shared-slice-read-want : tie.Need-shared-slice-read-want Inv-loop μ-loop
+shared-slice-read-want c = search needs
 
 shared-slice-read-if2 : tie.Need-shared-slice-read-if2 Inv-loop μ-loop
 shared-slice-read-if2 c = search needs
@@ -41,16 +36,14 @@ loop-again c = search needs
 returns-2 : tie.Need-returns-2 Inv-loop μ-loop
 returns-2 c = search needs
 
-pub holds-spec : {M : Type 1} → statement M
-holds-spec =
+pub leaves-spec : {M : Type 1} → statement M
+leaves-spec =
     tie.close
     (tie.spec
     Inv-loop
     μ-loop
     loop-holds
-    word-at-requires
-    words-on-requires
-    mul-if2
+    shared-slice-read-want
     shared-slice-read-if2
     returns
     add-i

@@ -1,29 +1,14 @@
--- `lines` is safe and ends: each turn goes to the next number, up to 15.
+-- `refused_lines` is safe and ends: each turn goes to the next number.
 use borrow.Author.Needs.{needs}
-use Prim.Native.Nat.{_-_, _≤_}
-use Rattle.vectors.proofs.summary.lines.Statement.{statement}
-use Rattle.vectors.proofs.summary.lines.Tie as tie
+use Prim.Native.Nat.{_-_}
+use Rattle.cases_file.proofs.summary.refused_lines.Statement.{statement}
+use Rattle.cases_file.proofs.summary.refused_lines.Tie as tie
 
 abbrev Inv-loop : tie.InvT-loop
-Inv-loop out₀ used₀ cases answers different number₀ t9 t10 out used number = number ≤ 16
+Inv-loop out₀ used₀ answers first end number₀ t7 out used number = Unit
 
 abbrev μ-loop : tie.MeasureT-loop
-μ-loop out₀ used₀ cases answers different number₀ t9 t10 out used number = 16 - number
-
-slice-aggregate-line : tie.Need-slice-aggregate-line Inv-loop μ-loop
-slice-aggregate-line c = search needs
-
-line-requires : tie.Need-line-requires Inv-loop μ-loop
-line-requires c κs = search needs
-
-slice-aggregate-line-2 : tie.Need-slice-aggregate-line-2 Inv-loop μ-loop
-slice-aggregate-line-2 c = search needs
-
-element-copy-out-line : tie.Need-element-copy-out-line Inv-loop μ-loop
-element-copy-out-line c = search needs
-
-line-requires-2 : tie.Need-line-requires-2 Inv-loop μ-loop
-line-requires-2 c κs = search needs
+μ-loop out₀ used₀ answers first end number₀ t7 out used number = end - number
 
 loop-holds : tie.Need-loop-holds Inv-loop μ-loop
 loop-holds c = search needs
@@ -64,26 +49,15 @@ loop-less c = search needs
 loop-again : tie.Need-loop-again Inv-loop μ-loop
 loop-again c = search needs
 
-slice-aggregate-line-3 : tie.Need-slice-aggregate-line-3 Inv-loop μ-loop
-slice-aggregate-line-3 c = search needs
-
-line-requires-3 : tie.Need-line-requires-3 Inv-loop μ-loop
-line-requires-3 c κs = search needs
-
 returns : tie.Need-returns Inv-loop μ-loop
 returns c = search needs
 
-pub lines-spec : {M : Type 1} → statement M
-lines-spec =
+pub refused-lines-spec : {M : Type 1} → statement M
+refused-lines-spec =
     tie.close
     (tie.spec
     Inv-loop
     μ-loop
-    slice-aggregate-line
-    line-requires
-    slice-aggregate-line-2
-    element-copy-out-line
-    line-requires-2
     loop-holds
     slice-aggregate-put-bytes
     put-bytes-requires
@@ -97,6 +71,4 @@ lines-spec =
     add-number
     loop-less
     loop-again
-    slice-aggregate-line-3
-    line-requires-3
     returns)

@@ -1,0 +1,25 @@
+// The listing of bindings.
+ghost use mathlib.Core.Path.{_≡_};
+ghost use lib.ListN.{length as size};
+ghost use Rattle.emit.specs.Written.{outputOf};
+ghost use Rattle.nontrefalcu.specs.Exports.{numberOf, lengthTable, listedInto};
+use crate::answer::hand_length;
+
+// `listing::list_binding` of the binding that is record 0 of `binding_words`: 0, and the written length in `length`; or the refusal's number, and zeros
+// everywhere.
+#[no_mangle]
+pub extern "C" fn nontrefalcu_list_binding<'a>(
+    chunk: &'a [u8],
+    edits: &'a [u8],
+    binding_words: &[u32],
+    out: &mut [u8],
+    length: &mut [u32],
+) -> u32
+    ensures answer { λ r. ⌜ r ≡ numberOf (listedInto (now (chunk .entry)) (now (edits .entry)) (now («binding_words» .entry)) (now (out .entry))) ⌝ }
+    ensures out { λ _. ⌜ now (out .exit) ≡ outputOf (listedInto (now (chunk .entry)) (now (edits .entry)) (now («binding_words» .entry)) (now (out .entry))) (now (out .entry)) ⌝ }
+    ensures length { λ _. ⌜ now (length .exit) ≡ lengthTable (listedInto (now (chunk .entry)) (now (edits .entry)) (now («binding_words» .entry)) (now (out .entry))) (size (now (length .entry))) ⌝ }
+{
+    let b = reflection::binding_at(binding_words, 0);
+    let written = listing::list_binding(chunk, edits, b, out);
+    hand_length(written, length)
+}
