@@ -5,7 +5,7 @@ ghost use Rattle.nontrefalcu.specs.Exports.{numberOf, resultTable, oneWo
 use emit::Written;
 
 // 0, and the written length in `length`; or the refusal's number, and zeros.
-pub fn hand_length(written: Written, length: &mut [u32]) -> u32
+pub(crate) fn hand_length(written: Written, length: &mut [u32]) -> u32
     requires { ⌜ LengthFits written ⌝ }
     ensures answer { λ r. ⌜ r ≡ numberOf (writtenLength written) ⌝ }
     ensures length { λ _. ⌜ now (length .exit) ≡ resultTable oneWord (writtenLength written) (size (now (length .entry))) ⌝ }
