@@ -15,6 +15,7 @@ pub trait ChunkWriter {
 // `pub mod rdef`, made by build.rs from rdef.rs and after_rdef.rs.
 include!(concat!(env!("OUT_DIR"), "/rdef_module.rs"));
 
+pub mod arguments;
 pub mod check;
 pub mod generate;
 pub mod model;

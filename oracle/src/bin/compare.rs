@@ -4,24 +4,20 @@
 //!
 //! With --model the model stands in for the port, to try the comparison itself.
 
+use oracle::arguments::{self, Arguments};
 use oracle::check::{Checker, Lending};
 use oracle::generate::rng::Rng;
 use oracle::generate::{fixed_chunks, Generator, Kind};
 use oracle::port::{self, Reader};
 use std::process::ExitCode;
-use std::time::{SystemTime, UNIX_EPOCH};
 
 fn main() -> ExitCode {
-    let mut words: Vec<String> = std::env::args().skip(1).collect();
-    let by_model = words.iter().any(|word| word == "--model");
-    words.retain(|word| word != "--model");
-    let numbers: Option<Vec<u64>> = words.iter().map(|word| word.parse().ok()).collect();
-    let (Some(numbers), Some(reader)) = (numbers.filter(|numbers| numbers.len() <= 2), reader(by_model)) else {
+    let Some((Arguments { count, seed, .. }, reader)) =
+        arguments::read(1_000_000).and_then(|given| reader(given.by_model).map(|reader| (given, reader)))
+    else {
         eprintln!("usage: compare [N] [SEED] [--model]; without --model the feature `library` must be on");
         return ExitCode::from(2);
     };
-    let count = numbers.first().copied().unwrap_or(1_000_000);
-    let seed = numbers.get(1).copied().unwrap_or_else(fresh_seed);
     println!("seed {seed}");
 
     let mut checker = Checker::new(reader);
@@ -63,10 +59,6 @@ fn lending(kind: Kind, rng: &mut Rng) -> Lending {
         30..=44 => Lending::Small,
         _ => Lending::Enough,
     }
-}
-
-fn fresh_seed() -> u64 {
-    SystemTime::now().duration_since(UNIX_EPOCH).map_or(0, |since| since.as_secs())
 }
 
 fn reader(by_model: bool) -> Option<Reader> {

@@ -5,25 +5,21 @@
 //!
 //! With --model the model stands in for the port, to try the comparison itself.
 
+use oracle::arguments::{self, Arguments};
 use oracle::generate::rng::Rng;
 use oracle::spelling::check::Checker;
 use oracle::spelling::generate::{grid, long, samples, with_rooms, Generator};
 use oracle::spelling::port::{self, Entries};
 use oracle::spelling::{stored, KINDS};
 use std::process::ExitCode;
-use std::time::{SystemTime, UNIX_EPOCH};
 
 fn main() -> ExitCode {
-    let mut words: Vec<String> = std::env::args().skip(1).collect();
-    let by_model = words.iter().any(|word| word == "--model");
-    words.retain(|word| word != "--model");
-    let numbers: Option<Vec<u64>> = words.iter().map(|word| word.parse().ok()).collect();
-    let (Some(numbers), Some(entries)) = (numbers.filter(|numbers| numbers.len() <= 2), entries(by_model)) else {
+    let Some((Arguments { count, seed, .. }, entries)) =
+        arguments::read(250_000).and_then(|given| entries(given.by_model).map(|entries| (given, entries)))
+    else {
         eprintln!("usage: compare_spelling [N] [SEED] [--model]; without --model the feature `library` must be on");
         return ExitCode::from(2);
     };
-    let count = numbers.first().copied().unwrap_or(250_000);
-    let seed = numbers.get(1).copied().unwrap_or_else(fresh_seed);
     println!("seed {seed}");
 
     let mut checker = Checker::new(entries);
@@ -52,10 +48,6 @@ fn main() -> ExitCode {
             ExitCode::FAILURE
         }
     }
-}
-
-fn fresh_seed() -> u64 {
-    SystemTime::now().duration_since(UNIX_EPOCH).map_or(0, |since| since.as_secs())
 }
 
 fn entries(by_model: bool) -> Option<Entries> {
