@@ -1,0 +1,2 @@
+-- Laws of the canonical form.
+pub mod Examples

@@ -1,0 +1,116 @@
+-- The examples of document 01, "Edge chunks", that are about the canonical form: contents, and the bytes that they are written as.
+-- `proofs/Examples.antt` proves the whole table by one statement.
+use mathlib.Core.List.{List, [], _∷_, _++_}
+use Prim.Native.Nat.{ℕ}
+use lib.ListN.{length}
+use Rattle.reflection.specs.declared.Text.{Text}
+use Rattle.reflection.specs.Reflection.{TypeDesc, mapType, CBufferVariable, ResourceBinding, mapBinding, ResourceDef, mapDef, noRd11, rd11}
+use Rattle.reflection.specs.Texts.{inChunk, textBytes}
+use Rattle.reading.specs.Examples.{bytes, header, major4, major5, globalsText, kText, noText, caseV, caseV5, empty, bindingOfType, float, globals, readV}
+
+abbrev pub Bytes : Type 0
+Bytes = List ℕ
+
+-- What a reflection read from a chunk holds, names and defaults as bytes.
+unfoldable pub contents : List ℕ → ResourceDef Text Text → ResourceDef Bytes Bytes
+contents chunk r = mapDef (textBytes chunk []) (textBytes chunk []) r
+
+-- A name as its bytes, where there is no chunk: an empty one.
+unfoldable pub nameless : Text → Bytes
+nameless t = []
+
+-- Major 4, one binding `t`, empty creator.
+unfoldable pub bindingT : ResourceDef Bytes Bytes
+bindingT = record {
+  target-version = major4;
+  compile-flags = 0;
+  rd11 = noRd11;
+  creator = [];
+  bindings =
+      record {
+        name = 116 ∷ [];
+        input-type = 0;
+        return-type = 0;
+        dimension = 0;
+        num-samples = 0;
+        bind-point = 0;
+        bind-count = 0;
+        flags = 0;
+        space = 0;
+        id = 0;
+      } ∷ [];
+  constant-buffers = [];
+}
+
+-- A float with a name of one byte, at an offset, with a default.
+unfoldable pub floatVariable : ℕ → ℕ → Bytes → CBufferVariable Bytes Bytes
+floatVariable name offset default = record {
+  name = name ∷ [];
+  offset = offset;
+  size = 4;
+  flags = 2;
+  default-value = default;
+  texture-start = 0;
+  texture-size = 0;
+  sampler-start = 0;
+  sampler-size = 0;
+  var-type = mapType nameless float;
+}
+
+-- As case V, but floats `a` and `b` with these defaults.
+unfoldable pub floatsAB : Bytes → Bytes → ResourceDef Bytes Bytes
+floatsAB a b = record {
+  target-version = major4;
+  compile-flags = 0;
+  rd11 = noRd11;
+  creator = [];
+  bindings = [];
+  constant-buffers =
+      record {
+        name = 36 ∷ 71 ∷ 108 ∷ 111 ∷ 98 ∷ 97 ∷ 108 ∷ 115 ∷ [];
+        size = 16;
+        flags = 0;
+        cb-type = 0;
+        variables = floatVariable 97 0 a ∷ floatVariable 98 4 b ∷ [];
+      } ∷ [];
+}
+
+-- The chunk of `floatsAB` up to the first default: buffer at 28, variables at 64, `a` at 112, the type at 116. The creator's and the second default's
+-- offsets vary.
+unfoldable pub chunkAB : ℕ → ℕ → List ℕ
+chunkAB creator second =
+    header 1 28 0 28 major4 creator ++ bytes (52 ∷ 2 ∷ 64 ∷ 16 ∷ 0 ∷ 0 ∷ []) ++ globalsText
+    ++ bytes (112 ∷ 0 ∷ 4 ∷ 2 ∷ 116 ∷ 132 ∷ []) ++ bytes (136 ∷ 4 ∷ 4 ∷ 2 ∷ 116 ∷ second ∷ [])
+    ++ (97 ∷ 0 ∷ 0xab ∷ 0xab ∷ []) ++ bytes (0x30000 ∷ 0x10001 ∷ 0 ∷ 0 ∷ [])
+
+-- Case V with a default of four bytes, which lies at 108; the creator at 112.
+unfoldable pub caseVDefault : List ℕ → List ℕ
+caseVDefault default =
+    header 1 28 0 28 major4 112 ++ bytes (52 ∷ 1 ∷ 64 ∷ 16 ∷ 0 ∷ 0 ∷ []) ++ globalsText
+    ++ bytes (88 ∷ 0 ∷ 4 ∷ 2 ∷ 92 ∷ 108 ∷ []) ++ kText ++ bytes (0x30000 ∷ 0x10001 ∷ 0 ∷ 0 ∷ []) ++ default ++ noText
+
+-- A row: the contents, the bytes, and how many there are.
+pub record Example : Type 0 where
+  pub written : ResourceDef Bytes Bytes
+  pub chunk : List ℕ
+  pub long : ℕ
+
+unfoldable pub writes : ResourceDef Bytes Bytes → List ℕ → ℕ → Example
+writes r chunk n = record { written = r; chunk = chunk; long = n }
+
+unfoldable pub examples : List Example
+examples =
+    -- case E: 32 bytes, creator offset 28, ending 00 AB AB AB
+    writes (contents [] empty) (header 0 0 0 28 major4 28 ++ noText) 32
+    -- one binding `t`: name at 60, creator at 62
+    ∷ writes bindingT (header 0 0 1 28 major4 62 ++ bytes (60 ∷ 0 ∷ 0 ∷ 0 ∷ 0 ∷ 0 ∷ 0 ∷ 0 ∷ []) ++ (116 ∷ 0 ∷ 0 ∷ 0xab ∷ [])) 64
+    -- case V as it reads is written as case V: buffers at 28, variables at 64, type at 92, creator at 108
+    ∷ writes (contents (caseV 0) (readV float 108 (inChunk 0 0))) (caseV 0) 112
+    -- with a default of four bytes
+    ∷ writes (contents (caseV 108) (readV float 108 (inChunk 108 4))) (caseVDefault noText) 116
+    -- the same as V in major 5: variables at 96, type at 140
+    ∷ writes (contents caseV5 (globals major5 (rd11 0x31314452 32 0) 176 84 136 0xffffffff float (inChunk 0 0))) caseV5 180
+    -- floats `a` and `b`: unequal defaults at 132 and 140, the creator at 144; equal ones both at 132, the creator at 138
+    ∷ writes (floatsAB (1 ∷ 2 ∷ 3 ∷ 4 ∷ []) (1 ∷ 2 ∷ 3 ∷ 5 ∷ [])) (chunkAB 144 140 ++ (1 ∷ 2 ∷ 3 ∷ 4 ∷ []) ++ (98 ∷ 0 ∷ 0xab ∷ 0xab ∷ []) ++ (1 ∷ 2 ∷ 3 ∷ 5 ∷ []) ++ noText) 148
+    ∷ writes (floatsAB (1 ∷ 2 ∷ 3 ∷ 4 ∷ []) (1 ∷ 2 ∷ 3 ∷ 4 ∷ [])) (chunkAB 138 132 ++ (1 ∷ 2 ∷ 3 ∷ 4 ∷ []) ++ (98 ∷ 0 ∷ 0 ∷ 0xab ∷ [])) 140
+    ∷ []

@@ -1,0 +1,127 @@
+-- The canonical form's layout: document 01, "Canonical form", in the order of the Rust's `write_rdef_canonical`.
+use mathlib.Core.Bool.{Bool, true, false, _&&_}
+use mathlib.Core.List.{List, [], _∷_, _++_, map}
+use Prim.Native.Nat.{ℕ, zero, suc, _*_}
+use lib.Dec.{eqb}
+use lib.ListN.{length}
+use Rattle.reflection.specs.Reflection.{TypeNumbers, TypeDesc, typeDesc, Members, noMember, member, memberCount, CBufferVariable, CBufferDef, ResourceBinding, ResourceDef, isSm5, isWide}
+use Rattle.writing.specs.Step.{Cell, byte, nameByte, defaultByte, Oracle, Pools, pools, Placed, Step, _>>=_, return, append, remember, pad, wordCells, ahead, find, once, rememberIf, unlessEmpty, below, addOuterName, addInnerName, addType, addDefault, cellsOf}
+use Rattle.writing.specs.Records.{typeWords, VariableOffsets, variableWords, variableSize, Section, bufferWords, bindingWords, bindingSize, headerWords, headerSize, BodyOffsets, rows}
+use Rattle.writing.specs.Same.{sameType}
+
+unfoldable pub zip : {A B : Type 0} → List A → List B → List (A × B)
+zip [] bs = []
+zip (a ∷ xs) [] = []
+zip (a ∷ xs) (b ∷ bs) = (a, b) ∷ zip xs bs
+
+module _ {N D : Type 0} (O : Oracle N D) where
+  -- A name and its NUL.
+  unfoldable pub nameCells : N → List (Cell N D)
+  nameCells n = cellsOf (O .name-length n) (nameByte n) ++ (byte 0 ∷ [])
+
+  -- A name of a binding or a buffer, and any other name: each in its own pool, equal text written once.
+  unfoldable pub placeOuterName : N → Step N D ℕ
+  placeOuterName n = once true (λ ps. find (O .same-name n) (ps .outer-names)) do
+    o ← append (nameCells n)
+    remember (addOuterName n) o
+
+  unfoldable pub placeInnerName : N → Step N D ℕ
+  placeInnerName n = once true (λ ps. find (O .same-name n) (ps .inner-names)) do
+    o ← append (nameCells n)
+    remember (addInnerName n) o
+
+  -- A default: equal bytes written once in the chunk, after padding. An empty one has offset 0.
+  unfoldable pub placeDefault : D → Step N D ℕ
+  placeDefault d = unlessEmpty (O .default-length d) (once true (λ ps. find (O .same-default d) (ps .defaults)) do
+    _ ← pad
+    o ← append (cellsOf (O .default-length d) (defaultByte d))
+    remember (addDefault d) o)
+
+  -- A type: its name if any; for each member its name, then its type; if there are members, padding and their records; padding; the descriptor.
+  -- It is looked up before anything is written, if it may be shared and is no array: array types are always fresh.
+  unfoldable mutual
+    pub placeType : Bool → Bool → TypeDesc N → Step N D ℕ
+    placeType sm5 share (typeDesc k n ms) = once (share && eqb (k .elements) 0) (λ ps. find (sameType (O .same-name) (typeDesc k n ms)) (ps .types)) do
+      name ← unlessEmpty (O .name-length n) (placeInnerName n)
+      records ← placeMembers sm5 ms
+      members ← unlessEmpty (memberCount ms) (do
+        _ ← pad
+        append (wordCells records))
+      _ ← pad
+      o ← append (wordCells (typeWords sm5 k (memberCount ms) members name))
+      rememberIf share (addType (typeDesc k n ms)) o
+
+    pub placeMembers : Bool → Members N → Step N D (List ℕ)
+    placeMembers sm5 noMember = return []
+    placeMembers sm5 (member n offset t ms) = do
+      name ← placeInnerName n
+      type ← below (placeType sm5 true t)
+      records ← placeMembers sm5 ms
+      return (name ∷ type ∷ offset ∷ records)
+
+  -- A variable: its name, type and default. A top-level type is shared only where its buffer's type is 0.
+  unfoldable pub placeVariable : Bool → Bool → CBufferVariable N D → Step N D VariableOffsets
+  placeVariable sm5 share v = do
+    name ← placeInnerName (v .name)
+    type ← placeType sm5 share (v .var-type)
+    default ← placeDefault (v .default-value)
+    return (record { name = name; type = type; default = default })
+
+  unfoldable pub placeVariables : Bool → Bool → List (CBufferVariable N D) → Step N D (List VariableOffsets)
+  placeVariables sm5 share [] = return []
+  placeVariables sm5 share (v ∷ vs) = do
+    o ← placeVariable sm5 share v
+    os ← placeVariables sm5 share vs
+    return (o ∷ os)
+
+  -- A buffer's variables: padding, their records, and then what the records point to.
+  unfoldable pub placeSection : Bool → CBufferDef N D → Step N D Section
+  placeSection sm5 b = do
+    start ← pad
+    os ← ahead (length (b .variables) * variableSize sm5) (rows (variableWords sm5) (b .variables)) (placeVariables sm5 (eqb (b .cb-type) 0) (b .variables))
+    return (record { start = start; offsets = os })
+
+  unfoldable pub placeSections : Bool → List (CBufferDef N D) → Step N D (List Section)
+  placeSections sm5 [] = return []
+  placeSections sm5 (b ∷ bs) = do
+    s ← placeSection sm5 b
+    ss ← placeSections sm5 bs
+    return (s ∷ ss)
+
+  unfoldable pub placeOuterNames : List N → Step N D (List ℕ)
+  placeOuterNames [] = return []
+  placeOuterNames (n ∷ ns) = do
+    o ← placeOuterName n
+    os ← placeOuterNames ns
+    return (o ∷ os)
+
+  -- After the buffers' records: their names, then the variables of each.
+  unfoldable pub placeBufferParts : Bool → List (CBufferDef N D) → Step N D (List (ℕ × Section))
+  placeBufferParts sm5 bs = do
+    names ← placeOuterNames (map (λ b. b .name) bs)
+    sections ← placeSections sm5 bs
+    return (zip names sections)
+
+  -- The buffers: padding, their records, their parts. With none their offset is 0 and the padding is left out.
+  unfoldable pub placeBuffers : Bool → List (CBufferDef N D) → Step N D (ℕ × List (ℕ × Section))
+  placeBuffers sm5 [] = return (0, [])
+  placeBuffers sm5 (b ∷ bs) = do
+    start ← pad
+    sections ← ahead (length (b ∷ bs) * 6) (rows bufferWords (b ∷ bs)) (placeBufferParts sm5 (b ∷ bs))
+    return (start, sections)
+
+  -- After the header: bindings and their names, the buffers, the creator and padding.
+  unfoldable pub placeBody : ResourceDef N D → Step N D BodyOffsets
+  placeBody r = do
+    _ ← ahead (length (r .bindings) * bindingSize (isWide (r .rd11))) (rows (bindingWords (isWide (r .rd11))) (r .bindings)) (placeOuterNames (map (λ b. b .name) (r .bindings)))
+    buffers ← placeBuffers (isSm5 (r .rd11)) (r .constant-buffers)
+    creator ← placeInnerName (r .creator)
+    _ ← pad
+    return (record { buffers = buffers .0; sections = buffers .1; creator = creator })
+
+  unfoldable pub placeChunk : ResourceDef N D → Step N D BodyOffsets
+  placeChunk r = ahead (headerSize (isSm5 (r .rd11))) (headerWords r) (placeBody r)
+
+  -- The whole chunk, from its start and empty pools.
+  unfoldable pub layout : ResourceDef N D → Placed N D BodyOffsets
+  layout r = placeChunk r 0 (pools [] [] [] [] [])

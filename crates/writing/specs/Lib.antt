@@ -1,0 +1,6 @@
+pub mod Step
+pub mod Records
+pub mod Same
+pub mod Layout
+pub mod Canonical
+pub mod Examples
