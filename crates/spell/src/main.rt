@@ -4,7 +4,8 @@ use libc::STDIN_FILENO;
 use spelling::SpelledType;
 use spelling::TypeSpelling;
 
-// The longest line that is read as a text. A longer one is answered `too long` and no number: leading zeros have no limit, so it may be a spelling.
+// The longest text that is kept. Leading zeros have no limit, so a run of zeros is kept to its first eight: in front of a number the others change
+// nothing, and after another digit eight make it too large already. What is longer even so is no spelling: one has at most three numbers.
 const LONGEST: usize = 1048576;
 
 // Prints what a text spells.
@@ -21,10 +22,49 @@ fn put_numbers(out: &mut [u8; 8192], used: &mut usize, t: TypeSpelling) {
     output::put_byte(out, used, b'\n');
 }
 
-// Answers a line of `length` bytes, all of which stand in `line` unless it is too long.
+fn is_zero(line: &[u8], at: usize) -> bool {
+    if at < line.len() {
+        line[at] == b'0'
+    } else {
+        false
+    }
+}
+
+// Whether the eight bytes before place n are zeros.
+fn after_eight_zeros(line: &[u8], n: usize) -> bool {
+    if n < 8 {
+        return false;
+    }
+    let first = n - 8;
+    let second = first + 4;
+    if !is_zero(line, first) || !is_zero(line, first + 1) {
+        return false;
+    }
+    if !is_zero(line, first + 2) || !is_zero(line, first + 3) {
+        return false;
+    }
+    if !is_zero(line, second) || !is_zero(line, second + 1) {
+        return false;
+    }
+    is_zero(line, second + 2) && is_zero(line, second + 3)
+}
+
+// Keeps one byte more of a text of which n bytes are kept; the answer is how many there are then, one past the longest where it has no room.
+fn keep(line: &mut [u8; 1048576], n: usize, b: u8) -> usize {
+    if LONGEST <= n {
+        return LONGEST + 1;
+    }
+    if b == b'0' && after_eight_zeros(line, n) {
+        return n;
+    }
+    line[n] = b;
+    n + 1
+}
+
+// Answers a text of which `length` bytes are kept; one that had no room is no spelling.
 fn answer(out: &mut [u8; 8192], used: &mut usize, line: &[u8], length: usize) {
     if LONGEST < length {
-        output::put_bytes(out, used, b"too long\n");
+        output::put_refused(out, used, 18);
         return;
     }
     let spelled = spelling::parse_hlsl_type(words::part(line, 0, length));
@@ -54,11 +94,8 @@ fn answer_block(
         if b == b'\n' {
             answer(out, used, line, n);
             n = 0;
-        } else if n < LONGEST {
-            line[n] = b;
-            n += 1;
         } else {
-            n = LONGEST + 1;
+            n = keep(line, n, b);
         }
         i += 1;
     }

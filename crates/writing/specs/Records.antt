@@ -1,9 +1,10 @@
 -- The words of each record of a chunk, with the offsets that it holds: document 01, "Walk order" and "Canonical form".
 use mathlib.Core.Bool.{Bool, true, false}
 use mathlib.Core.List.{List, [], _∷_, _++_}
-use Prim.Native.Nat.{ℕ, _+_, _*_}
+use Prim.Native.Nat.{ℕ, _+_, _*_, _/_}
 use lib.ListN.{length}
 use Rattle.reflection.specs.Reflection.{TypeNumbers, CBufferVariable, CBufferDef, ResourceBinding, ResourceDef, Rd11, noRd11, rd11, isSm5}
+use Rattle.reading.specs.Read.{bindingStride, variableStride}
 
 -- Two numbers of 16 bits in a word, the first in the lower half.
 unfoldable pub halves : ℕ → ℕ → ℕ
@@ -14,18 +15,16 @@ abbrev pub wordsIf : Bool → List ℕ → List ℕ
 wordsIf false ws = []
 wordsIf true ws = ws
 
--- How many words a record has: a header, a binding, a variable; a buffer has 6.
+-- How many words a header has; a binding and a variable, by the strides of reading; a buffer has 6.
 abbrev pub headerSize : Bool → ℕ
 headerSize false = 7
 headerSize true = 15
 
 abbrev pub bindingSize : Bool → ℕ
-bindingSize false = 8
-bindingSize true = 10
+bindingSize wide = bindingStride wide / 4
 
 abbrev pub variableSize : Bool → ℕ
-variableSize false = 6
-variableSize true = 10
+variableSize sm5 = variableStride sm5 / 4
 
 -- A type descriptor: how many members, where their records lie, where its name lies.
 unfoldable pub typeWords : Bool → TypeNumbers → ℕ → ℕ → ℕ → List ℕ

@@ -1,4 +1,4 @@
--- `answer_block` is safe and ends: each turn leaves one byte less, and a byte is kept only where the line has room for it.
+-- `answer_block` is safe and ends: each turn leaves one byte less; what is kept of a line is `keep`'s.
 use borrow.Author.Needs.{needs}
 use Prim.Native.Nat.{_-_, _≤_}
 use lib.ListN.{length}
@@ -20,14 +20,8 @@ shared-slice-read-b c = search needs
 answer-requires : tie.Need-answer-requires Inv-loop μ-loop
 answer-requires c κs = search needs
 
-element-write-line : tie.Need-element-write-line Inv-loop μ-loop
-element-write-line c = search needs
-
-add-n : tie.Need-add-n Inv-loop μ-loop
-add-n c = search needs
-
-add-n-2 : tie.Need-add-n-2 Inv-loop μ-loop
-add-n-2 c = search needs
+keep-requires : tie.Need-keep-requires Inv-loop μ-loop
+keep-requires c κs = search needs
 
 add-i : tie.Need-add-i Inv-loop μ-loop
 add-i c = search needs
@@ -50,9 +44,7 @@ answer-block-spec =
     loop-holds
     shared-slice-read-b
     answer-requires
-    element-write-line
-    add-n
-    add-n-2
+    keep-requires
     add-i
     loop-less
     loop-again
