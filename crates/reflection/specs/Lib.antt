@@ -5,3 +5,4 @@ pub mod Nodes
 pub mod Records
 pub mod Tables
 pub mod Decode
+pub mod Contents

@@ -4,16 +4,10 @@ use mathlib.Core.List.{List, [], _∷_, _++_}
 use Prim.Native.Nat.{ℕ}
 use lib.ListN.{length}
 use Rattle.reflection.specs.declared.Text.{Text}
-use Rattle.reflection.specs.Reflection.{TypeDesc, mapType, CBufferVariable, ResourceBinding, mapBinding, ResourceDef, mapDef, noRd11, rd11}
-use Rattle.reflection.specs.Texts.{inChunk, textBytes}
+use Rattle.reflection.specs.Reflection.{TypeDesc, mapType, CBufferVariable, ResourceBinding, mapBinding, ResourceDef, noRd11, rd11}
+use Rattle.reflection.specs.Texts.{inChunk}
+use Rattle.reflection.specs.Contents.{Bytes, contents}
 use Rattle.reading.specs.Examples.{bytes, header, major4, major5, globalsText, kText, noText, caseV, caseV5, empty, bindingOfType, float, globals, readV}
-
-abbrev pub Bytes : Type 0
-Bytes = List ℕ
-
--- What a reflection read from a chunk holds, names and defaults as bytes.
-unfoldable pub contents : List ℕ → ResourceDef Text Text → ResourceDef Bytes Bytes
-contents chunk r = mapDef (textBytes chunk []) (textBytes chunk []) r
 
 -- A name as its bytes, where there is no chunk: an empty one.
 unfoldable pub nameless : Text → Bytes
@@ -101,15 +95,15 @@ writes r chunk n = record { written = r; chunk = chunk; long = n }
 unfoldable pub examples : List Example
 examples =
     -- case E: 32 bytes, creator offset 28, ending 00 AB AB AB
-    writes (contents [] empty) (header 0 0 0 28 major4 28 ++ noText) 32
+    writes (contents [] [] empty) (header 0 0 0 28 major4 28 ++ noText) 32
     -- one binding `t`: name at 60, creator at 62
     ∷ writes bindingT (header 0 0 1 28 major4 62 ++ bytes (60 ∷ 0 ∷ 0 ∷ 0 ∷ 0 ∷ 0 ∷ 0 ∷ 0 ∷ []) ++ (116 ∷ 0 ∷ 0 ∷ 0xab ∷ [])) 64
     -- case V as it reads is written as case V: buffers at 28, variables at 64, type at 92, creator at 108
-    ∷ writes (contents (caseV 0) (readV float 108 (inChunk 0 0))) (caseV 0) 112
+    ∷ writes (contents (caseV 0) [] (readV float 108 (inChunk 0 0))) (caseV 0) 112
     -- with a default of four bytes
-    ∷ writes (contents (caseV 108) (readV float 108 (inChunk 108 4))) (caseVDefault noText) 116
+    ∷ writes (contents (caseV 108) [] (readV float 108 (inChunk 108 4))) (caseVDefault noText) 116
     -- the same as V in major 5: variables at 96, type at 140
-    ∷ writes (contents caseV5 (globals major5 (rd11 0x31314452 32 0) 176 84 136 0xffffffff float (inChunk 0 0))) caseV5 180
+    ∷ writes (contents caseV5 [] (globals major5 (rd11 0x31314452 32 0) 176 84 136 0xffffffff float (inChunk 0 0))) caseV5 180
     -- floats `a` and `b`: unequal defaults at 132 and 140, the creator at 144; equal ones both at 132, the creator at 138
     ∷ writes (floatsAB (1 ∷ 2 ∷ 3 ∷ 4 ∷ []) (1 ∷ 2 ∷ 3 ∷ 5 ∷ [])) (chunkAB 144 140 ++ (1 ∷ 2 ∷ 3 ∷ 4 ∷ []) ++ (98 ∷ 0 ∷ 0xab ∷ 0xab ∷ []) ++ (1 ∷ 2 ∷ 3 ∷ 5 ∷ []) ++ noText) 148
     ∷ writes (floatsAB (1 ∷ 2 ∷ 3 ∷ 4 ∷ []) (1 ∷ 2 ∷ 3 ∷ 4 ∷ [])) (chunkAB 138 132 ++ (1 ∷ 2 ∷ 3 ∷ 4 ∷ []) ++ (98 ∷ 0 ∷ 0 ∷ 0xab ∷ [])) 140

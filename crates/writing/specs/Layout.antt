@@ -37,18 +37,23 @@ module _ {N D : Type 0} (O : Oracle N D) where
     o ← append (cellsOf (O .default-length d) (defaultByte d))
     remember (addDefault d) o)
 
-  -- A type: its name if any; for each member its name, then its type; if there are members, padding and their records; padding; the descriptor.
-  -- It is looked up before anything is written, if it may be shared and is no array: array types are always fresh.
+  -- What is written for a type: its name if any; for each member its name, then its type (`placeMembers`, which hands back the words of their records);
+  -- if there are members, padding and their records; padding; the descriptor.
+  unfoldable pub writeType : Bool → TypeNumbers → N → ℕ → Step N D (List ℕ) → Step N D ℕ
+  writeType sm5 k n count placeMembers = do
+    name ← unlessEmpty (O .name-length n) (placeInnerName n)
+    records ← placeMembers
+    members ← unlessEmpty count (do
+      _ ← pad
+      append (wordCells records))
+    _ ← pad
+    append (wordCells (typeWords sm5 k count members name))
+
+  -- A type is looked up before anything is written, if it may be shared and is no array: array types are always fresh.
   unfoldable mutual
     pub placeType : Bool → Bool → TypeDesc N → Step N D ℕ
     placeType sm5 share (typeDesc k n ms) = once (share && eqb (k .elements) 0) (λ ps. find (sameType (O .same-name) (typeDesc k n ms)) (ps .types)) do
-      name ← unlessEmpty (O .name-length n) (placeInnerName n)
-      records ← placeMembers sm5 ms
-      members ← unlessEmpty (memberCount ms) (do
-        _ ← pad
-        append (wordCells records))
-      _ ← pad
-      o ← append (wordCells (typeWords sm5 k (memberCount ms) members name))
+      o ← writeType sm5 k n (memberCount ms) (placeMembers sm5 ms)
       rememberIf share (addType (typeDesc k n ms)) o
 
     pub placeMembers : Bool → Members N → Step N D (List ℕ)

@@ -3,4 +3,5 @@ pub mod Records
 pub mod Same
 pub mod Layout
 pub mod Canonical
+pub mod Outcome
 pub mod Examples

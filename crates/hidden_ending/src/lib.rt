@@ -1,0 +1,1 @@
+// What two evenings have alike (specs/HiddenEnding.antt); no code.
