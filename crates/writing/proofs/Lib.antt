@@ -1,2 +1,4 @@
 -- Laws of the canonical form.
 pub mod Examples
+pub mod NaturalSteps
+pub mod Natural

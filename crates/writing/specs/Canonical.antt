@@ -29,3 +29,15 @@ through f g O = record {
   default-length = λ d. O .default-length (g d);
   same-default = λ d e. O .same-default (g d) (g e);
 }
+
+-- The byte of a cell, where names and defaults stand for bytes.
+unfoldable pub fillThrough : {N D : Type 0} → (N → Bytes) → (D → Bytes) → Cell N D → ℕ
+fillThrough f g (byte b) = b
+fillThrough f g (nameByte name j) = getD (f name) j 0
+fillThrough f g (defaultByte default j) = getD (g default) j 0
+
+-- The same cell, of what its name or default stands for.
+unfoldable pub mapCell : {N D M E : Type 0} → (N → M) → (D → E) → Cell N D → Cell M E
+mapCell f g (byte b) = byte b
+mapCell f g (nameByte name j) = nameByte (f name) j
+mapCell f g (defaultByte default j) = defaultByte (g default) j

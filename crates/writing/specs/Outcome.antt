@@ -12,7 +12,7 @@ use Rattle.writing.specs.Canonical.{canonical}
 
 -- How many words of scratch the writer needs (docs/ROOM.md).
 abbrev pub scratchSize : ℕ
-scratchSize = 98304
+scratchSize = 95360
 
 -- The canonical form of what the tables hold; 16 where they hold nothing or it is not readable.
 unfoldable pub canonicalOr16 : Option (ResourceDef Bytes Bytes) → Outcome Bytes

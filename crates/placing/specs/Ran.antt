@@ -1,0 +1,25 @@
+-- A step of canonical writing was run: from the cursor and the pools it answered its result, appended its bytes to the output, and left the pools that it
+-- leaves. Names and defaults are places in the chunk or in the text of edits. The contracts of the code that writes a chunk say this of each step.
+use mathlib.Core.Path.{_≡_}
+use mathlib.Core.List.{List, [], _∷_, _++_, map}
+use mathlib.Core.Option.{Option, none, some}
+use Prim.Native.Nat.{ℕ}
+use lib.ListN.{length}
+use Rattle.words.specs.Splice.{Put}
+use Rattle.reflection.specs.declared.Text.{Text}
+use Rattle.reflection.specs.Texts.{textBytes}
+use Rattle.writing.specs.Step.{Cell, Oracle, Pools, Step}
+use Rattle.writing.specs.Canonical.{bytesOracle, through, fillThrough}
+
+-- What the layout may know of places: how long the bytes are that lie there, and which are equal.
+unfoldable pub textOracle : List ℕ → List ℕ → Oracle Text Text
+textOracle chunk edits = through (textBytes chunk edits) (textBytes chunk edits) bytesOracle
+
+-- The bytes of cells.
+unfoldable pub cellBytes : List ℕ → List ℕ → List (Cell Text Text) → List ℕ
+cellBytes chunk edits cells = map (fillThrough (textBytes chunk edits) (textBytes chunk edits)) cells
+
+pub record Ran (chunk edits : List ℕ) {A : Type 0} (step : Step Text Text A) (at : ℕ) (ps : Pools Text Text) (out out′ : List ℕ) (result : A) (to : ℕ) (ps′ : Pools Text Text) : Type 0 where
+  pub answered : step at ps .result ≡ result
+  pub put : Put out at (cellBytes chunk edits (step at ps .cells)) out′ to
+  pub pools-left : step at ps .pools-after ≡ ps′

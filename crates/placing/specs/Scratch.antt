@@ -1,0 +1,69 @@
+-- The writer's scratch, region by region, and the pools that stand in it (docs/ROOM.md). Three pools of texts come first (crate text_pool): names of bindings
+-- and buffers, all other names, defaults. Then the types of variables and the types of members that may be shared, an entry of two words each: the type's
+-- node, its offset. Then the words of members' records while a type is written, the offsets of variables, of buffers and of bindings' names.
+use mathlib.Core.Path.{_≡_}
+use mathlib.Core.List.{List, [], _∷_}
+use Prim.Native.Nat.{ℕ, zero, suc, _+_, _*_, _-_, _≤_}
+use lib.ListN.{length, getD, take, drop}
+use Rattle.reflection.specs.declared.Text.{Text}
+use Rattle.reflection.specs.Reflection.{TypeDesc}
+use Rattle.writing.specs.Step.{Pools, pools}
+use Rattle.text_pool.specs.Pool.{Indexed, entries}
+
+-- Where each region begins; the first begins at 0.
+abbrev pub innerStart : ℕ
+innerStart = 8192
+
+abbrev pub defaultsStart : ℕ
+defaultsStart = 51200
+
+abbrev pub rootTypesStart : ℕ
+rootTypesStart = 63488
+
+abbrev pub memberTypesStart : ℕ
+memberTypesStart = 67584
+
+abbrev pub recordsStart : ℕ
+recordsStart = 75776
+
+abbrev pub variablesStart : ℕ
+variablesStart = 88064
+
+abbrev pub buffersStart : ℕ
+buffersStart = 94208
+
+abbrev pub bindingsStart : ℕ
+bindingsStart = 94336
+
+abbrev pub scratchEnd : ℕ
+scratchEnd = 95360
+
+-- The words from one place up to another.
+unfoldable pub region : ℕ → ℕ → List ℕ → List ℕ
+region from to s = take (to - from) (drop from s)
+
+unfoldable pub outerPool : List ℕ → List ℕ
+outerPool s = region 0 innerStart s
+
+unfoldable pub innerPool : List ℕ → List ℕ
+innerPool s = region innerStart defaultsStart s
+
+unfoldable pub defaultPool : List ℕ → List ℕ
+defaultPool s = region defaultsStart rootTypesStart s
+
+-- n type entries from entry `base` on, the newest first; `start` is where the entries' region begins, and `tree` gives the type at a node.
+unfoldable pub typesFrom : (ℕ → TypeDesc Text) → ℕ → List ℕ → ℕ → ℕ → List (TypeDesc Text × ℕ)
+typesFrom tree start s base zero = []
+typesFrom tree start s base (suc n) = (tree (getD s (start + (base + n) * 2) 0), getD s (start + (base + n) * 2 + 1) 0) ∷ typesFrom tree start s base n
+
+-- The pools in the scratch: of types, those among which one is looked up are handed in, and the members' are n entries from `base` on.
+unfoldable pub poolsIn : List ℕ → List (TypeDesc Text × ℕ) → (ℕ → TypeDesc Text) → ℕ → ℕ → Pools Text Text
+poolsIn s types tree base n =
+    pools (entries (outerPool s)) (entries (innerPool s)) types (typesFrom tree memberTypesStart s base n) (entries (defaultPool s))
+
+-- The scratch is long enough, and its three pools of texts are in order.
+pub record Ready (chunk edits s : List ℕ) : Type 0 where
+  pub long : scratchEnd ≤ length s
+  pub outer : Indexed chunk edits (outerPool s)
+  pub inner : Indexed chunk edits (innerPool s)
+  pub defaults : Indexed chunk edits (defaultPool s)

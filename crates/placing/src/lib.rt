@@ -1,0 +1,1 @@
+// Steps of canonical writing that put words, padding, names and defaults.

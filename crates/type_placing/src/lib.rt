@@ -1,0 +1,1 @@
+// Types and members: finding an equal type, and writing one.
