@@ -2,3 +2,4 @@
 pub mod Examples
 pub mod NaturalSteps
 pub mod Natural
+pub mod Sizes

@@ -4,4 +4,5 @@ pub mod Same
 pub mod Layout
 pub mod Canonical
 pub mod Outcome
+pub mod Payload
 pub mod Examples
