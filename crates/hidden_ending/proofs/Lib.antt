@@ -1,0 +1,10 @@
+-- The hidden ending, and what it rests on.
+pub mod Numbered
+pub mod Plain
+pub mod Within
+pub mod Readable
+pub mod OneLayout
+pub mod Evenings
+pub mod Answers
+pub mod HiddenEnding
+pub mod Instance

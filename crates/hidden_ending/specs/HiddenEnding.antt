@@ -38,7 +38,7 @@ pub record SameButDefaults (a b : ResourceDef Bytes Bytes) : Type 0 where
   pub equal-pairs : (i j : ℕ) → sameBytes (defaultNumber a i) (defaultNumber a j) ≡ sameBytes (defaultNumber b i) (defaultNumber b j)
 
 -- A byte's index lies in one of these texts; an empty text covers nothing.
-unfoldable pub Covered : ℕ → List Text → Type 0
+abbrev pub Covered : ℕ → List Text → Type 0
 Covered p [] = ⊥
 Covered p (t ∷ ts) = ((t .place ≤ p) × (p < t .place + t .length)) ⊎ Covered p ts
 

@@ -1,0 +1,9 @@
+pub mod Lists
+pub mod Holds
+pub mod Rooms
+pub mod Texts
+pub mod Steps
+pub mod Names
+pub mod Conditions
+pub mod TypeReading
+pub mod Types

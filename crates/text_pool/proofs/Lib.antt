@@ -1,0 +1,4 @@
+pub mod Hashes
+pub mod Links
+pub mod Emptied
+pub mod Added

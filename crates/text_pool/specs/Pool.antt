@@ -73,3 +73,17 @@ pub record Indexed (chunk edits p : List ℕ) : Type 0 where
 abbrev pub pooledAt : Pooled → Option ℕ
 pooledAt (At offset) = some offset
 pooledAt Absent = none
+
+-- The words were made a pool without entries. They are as many as before, and in order whatever the chunk and the edits are.
+pub record Begun (before after : List ℕ) : Type 0 where
+  pub same-length : length after ≡ length before
+  pub no-entries : entries after ≡ []
+  pub none-counted : entryCount after ≡ 0
+  pub indexed : (chunk edits : List ℕ) → entriesStart ≤ length before → Indexed chunk edits after
+
+-- An entry was added: a pool in order stays in order, if the entry went into the bucket of its bytes.
+pub record Remembered (before : List ℕ) (text : Text) (bucket offset : ℕ) (after : List ℕ) : Type 0 where
+  pub same-length : length after ≡ length before
+  pub one-entry-more : entries after ≡ (text, offset) ∷ entries before
+  pub one-more-counted : entryCount after ≡ entryCount before + 1
+  pub indexed : (chunk edits : List ℕ) → Indexed chunk edits before → bucket ≡ bucketOf (textBytes chunk edits text) → Indexed chunk edits after

@@ -13,7 +13,7 @@ use Rattle.reflection.specs.Reflection.{TypeDesc, typeDesc, Members, noMember, 
 use Rattle.writing.specs.Step.{Cell, byte, Pools, pools, Placed, Step, _>>=_, return, append, remember, pad, paddingAt, wordCells, ahead, hit, find, found, once, rememberIf, unlessEmpty, below, goDown, cellsOf}
 use Rattle.writing.specs.Records.{rows}
 use Rattle.writing.specs.Same.{numbersOf, sameType, sameMembers}
-use Rattle.writing.specs.Canonical.{through, mapCell}
+use Rattle.writing.specs.Canonical.{mapCell}
 
 -- An entry of a pool, the pools, and what a step hands back, of what the names and defaults stand for.
 abbrev pub mapKey : {K L : Type 0} → (K → L) → K × ℕ → L × ℕ

@@ -2,16 +2,16 @@
 -- that stand `ahead` of a step are as many as were left for them.
 use mathlib.Core.Path.{_≡_, refl, ap, sym, _∙_}
 use mathlib.Core.Bool.{Bool, true, false}
-use mathlib.Core.List.{List, [], _∷_, _++_, map}
-use Prim.Native.Nat.{ℕ, zero, suc, _+_, _*_}
+use mathlib.Core.List.{List, [], _∷_, map}
+use Prim.Native.Nat.{ℕ, suc, _+_, _*_}
 use native.Mathlib.Omega.{arith}
 use lib.Dec.{eqb}
 use lib.ListN.{length, length-append, length-map}
 use Rattle.words.specs.Words.{wordBytes}
 use Rattle.reflection.specs.Reflection.{CBufferVariable, CBufferDef, ResourceBinding, ResourceDef, Rd11, noRd11, rd11, isSm5}
-use Rattle.writing.specs.Step.{Cell, Oracle, Pools, Placed, Step, _>>=_, return, wordCells, ahead}
+use Rattle.writing.specs.Step.{Oracle, Pools, _>>=_, return, wordCells, ahead}
 use Rattle.writing.specs.Records.{VariableOffsets, variableWords, variableSize, Section, bufferWords, bindingWords, bindingSize, rd11Words, headerWords, headerSize, BodyOffsets, rows}
-use Rattle.writing.specs.Layout.{zip, placeVariable, placeVariables, placeSection, placeSections, placeOuterName, placeOuterNames, placeBufferParts}
+use Rattle.writing.specs.Layout.{zip, placeVariables, placeSection, placeSections, placeOuterNames, placeBufferParts}
 
 pub word-cells-length : (N D : Type 0) (ws : List ℕ) → length (wordCells {N = N} {D = D} ws) ≡ 4 * length ws
 unfolding wordCells wordBytes

@@ -1,0 +1,80 @@
+-- Two evenings as the statement speaks of them: floats `a` and `b` with unequal defaults of four bytes, other bytes in each evening. So nothing that the
+-- statement asks is empty; and these two are written, into 148 bytes that differ.
+use mathlib.Core.Path.{_≡_, refl}
+use mathlib.Core.List.{[], _∷_}
+use mathlib.Core.Option.{some}
+use Prim.Native.Nat.{ℕ, zero, suc}
+use native.Mathlib.Omega.{arith}
+use lib.ListN.{length, getD}
+use Rattle.words.specs.Words
+use Rattle.text.specs.Same as TextSame
+use Rattle.text.specs.Utf8
+use Rattle.text.specs.Strings
+use Rattle.reflection.specs.Outcome.{ok}
+use Rattle.reflection.specs.Reflection
+use Rattle.reflection.specs.Reflection.{ResourceDef}
+use Rattle.reflection.specs.Nodes
+use Rattle.reflection.specs.Tables
+use Rattle.reflection.specs.Contents
+use Rattle.reflection.specs.Contents.{Bytes}
+use Rattle.reading.specs.Examples as Chunks
+use Rattle.readable.specs.Readable
+use Rattle.emit.specs.Written
+use Rattle.writing.specs.Step
+use Rattle.writing.specs.Records
+use Rattle.writing.specs.Same
+use Rattle.writing.specs.Layout
+use Rattle.writing.specs.Canonical
+use Rattle.writing.specs.Canonical.{canonical}
+use Rattle.writing.specs.Outcome
+use Rattle.writing.specs.Outcome.{write}
+use Rattle.writing.specs.Examples
+use Rattle.writing.specs.Examples.{floatsAB}
+use Rattle.round_trip.specs.RoundTrip
+use Rattle.round_trip.specs.RoundTrip.{NumbersAreWords}
+use Rattle.hidden_ending.specs.HiddenEnding
+use Rattle.hidden_ending.specs.HiddenEnding.{SameButDefaults}
+
+-- A name for all that has to compute.
+unfoldable computing : Unit {0}
+unfolding Words.wordBytes TextSame.sameBytes Utf8.run Utf8.wellFormed Strings.withoutNul Reflection.memberCount Reflection.mapType Reflection.mapBinding Reflection.mapVariable Reflection.mapBuffer Reflection.mapDef Nodes.nodesOf Tables.allVariables Contents.typeNames Contents.variableNames Contents.outerNames Contents.innerNames Contents.defaultsOf Chunks.float Readable.every Readable.nameReadable Readable.defaultReadable Readable.zeroUnless Readable.versionReadable Readable.bindingReadable Readable.numbersReadable Readable.typeReadable Readable.variableReadable Readable.nodeCount Readable.roomKept Readable.readableContents Written.fitting Step._>>=_ Step.return Step.append Step.remember Step.paddingAt Step.pad Step.wordCells Step.ahead Step.find Step.once Step.rememberIf Step.unlessEmpty Step.below Step.cellsOf Records.halves Records.typeWords Records.variableWords Records.bufferWords Records.bindingWords Records.rd11Words Records.headerWords Records.rows Same.numbersOf Same.sameType Layout.zip Layout.nameCells Layout.placeOuterName Layout.placeInnerName Layout.placeDefault Layout.writeType Layout.placeType Layout.placeVariable Layout.placeVariables Layout.placeSection Layout.placeSections Layout.placeOuterNames Layout.placeBufferParts Layout.placeBuffers Layout.placeBody Layout.placeChunk Layout.layout Canonical.bytesOracle Canonical.fill Canonical.canonical Outcome.canonicalOr16 Outcome.write Examples.nameless Examples.floatVariable Examples.floatsAB RoundTrip.typeNumbers RoundTrip.variableNumbers RoundTrip.bindingNumbers RoundTrip.Words RoundTrip.AllWords RoundTrip.bufferNumbers RoundTrip.BuffersWords HiddenEnding.defaultNumber HiddenEnding.withoutDefaults
+computing = tt
+
+abbrev one : ResourceDef Bytes Bytes
+one = floatsAB (1 ∷ 2 ∷ 3 ∷ 4 ∷ []) (1 ∷ 2 ∷ 3 ∷ 5 ∷ [])
+
+abbrev other : ResourceDef Bytes Bytes
+other = floatsAB (9 ∷ 8 ∷ 7 ∷ 6 ∷ []) (0 ∷ 0 ∷ 0 ∷ 0 ∷ [])
+
+pub same-but-defaults : SameButDefaults one other
+unfolding computing
+same-but-defaults = record { numbers-and-names = refl; lengths = lengths; equal-pairs = equal-pairs }
+  where
+    lengths : (i : ℕ) → length (HiddenEnding.defaultNumber one i) ≡ length (HiddenEnding.defaultNumber other i)
+    lengths zero = refl
+    lengths (suc zero) = refl
+    lengths (suc (suc i)) = refl
+
+    equal-pairs : (i j : ℕ) → TextSame.sameBytes (HiddenEnding.defaultNumber one i) (HiddenEnding.defaultNumber one j) ≡ TextSame.sameBytes (HiddenEnding.defaultNumber other i) (HiddenEnding.defaultNumber other j)
+    equal-pairs zero zero = refl
+    equal-pairs zero (suc zero) = refl
+    equal-pairs zero (suc (suc j)) = refl
+    equal-pairs (suc zero) zero = refl
+    equal-pairs (suc zero) (suc zero) = refl
+    equal-pairs (suc zero) (suc (suc j)) = refl
+    equal-pairs (suc (suc i)) zero = refl
+    equal-pairs (suc (suc i)) (suc zero) = refl
+    equal-pairs (suc (suc i)) (suc (suc j)) = refl
+
+pub numbers-are-words : NumbersAreWords one
+unfolding computing
+numbers-are-words = record { header = omega arith; bindings = tt; buffers = (omega arith, ((omega arith, (omega arith, tt)), tt)) }
+
+-- Both are written where there is room, and the first byte of the first default differs.
+pub both-written : (write Outcome.scratchSize 148 (some one) ≡ ok (canonical one)) × (write Outcome.scratchSize 148 (some other) ≡ ok (canonical other))
+unfolding computing
+both-written = (refl, refl)
+
+pub differ : (getD (canonical one) 132 0 ≡ 1) × (getD (canonical other) 132 0 ≡ 9)
+unfolding computing
+differ = (refl, refl)

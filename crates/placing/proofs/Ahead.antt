@@ -1,0 +1,61 @@
+-- Records that stand before what they point to: what they point to was placed first, from behind them, and their words were written last, at their place. The two
+-- writes lie apart, so their order does not matter.
+use mathlib.Core.Path.{_≡_, refl, ap, sym, _∙_, subst}
+use mathlib.Core.List.{List, [], _∷_, _++_}
+use Prim.Native.Nat.{ℕ, zero, suc, _+_, _*_, _≤_, _<_}
+use native.Mathlib.Omega.{arith}
+use lib.ListN.{length, set, length-append}
+use lib.Seq.{set-comm, sets}
+use Rattle.words.specs.Splice.{splice, splice-append, Put}
+use Rattle.reflection.specs.declared.Text.{Text}
+use Rattle.writing.specs.Step.{Pools, Placed, Step, ahead, wordCells}
+use Rattle.placing.specs.Ran.{Ran, cellBytes}
+use Rattle.placing.specs.Bytes.{joinedBytes}
+use Rattle.placing.proofs.CellBytes.{length-joined, cell-bytes-append, cell-bytes-words}
+
+-- one store below a run
+set-below : (ys l : List ℕ) (a b x : ℕ) → a < b → set (splice l b ys) a x ≡ splice (set l a x) b ys
+unfolding splice
+set-below [] l a b x h = refl
+set-below (y ∷ ys) l a b x h =
+    set-below ys (set l b y) a (suc b) x (omega arith) ∙ ap (λ (m : List ℕ). sets m (suc b) ys) (set-comm l b a y x (λ e. omega (arith, e)))
+
+-- two runs that lie apart
+pub splice-apart : (xs ys l : List ℕ) (a b : ℕ) → a + length xs ≤ b → splice (splice l b ys) a xs ≡ splice (splice l a xs) b ys
+unfolding splice
+splice-apart [] ys l a b h = refl
+splice-apart (x ∷ xs) ys l a b h =
+    ap (λ (m : List ℕ). splice m (suc a) xs) (set-below ys l a b x (omega arith)) ∙ splice-apart xs ys (set l a x) (suc a) b (omega arith)
+
+pub put-ahead : {l l₁ l₂ xs ys : List ℕ} {a r₁ r₂ : ℕ} → Put l (a + length xs) ys l₁ r₁ → Put l₁ a xs l₂ r₂ → Put l a (xs ++ ys) l₂ r₁
+put-ahead {l} {l₁} {l₂} {xs} {ys} {a} {r₁} {r₂} p q = record {
+  list = q .list ∙ ap (λ (m : List ℕ). splice m a xs) (p .list) ∙ splice-apart xs ys l a (a + length xs) (omega arith) ∙ splice-append l a xs ys;
+  next = omega (arith, p .next, length-append xs ys);
+}
+
+module _ (chunk edits : List ℕ) where
+  -- the step ran from behind n words; then the words were written at the cursor
+  pub ran-ahead : {A : Type 0} {m : Step Text Text A} (n : ℕ) (words : A → List ℕ) {at to end : ℕ} {ps ps′ : Pools Text Text} {out out₁ out₂ : List ℕ} {a : A}
+      → length (words a) ≡ n → Ran chunk edits m (at + 4 * n) ps out out₁ a to ps′ → Put out₁ at (joinedBytes (words a)) out₂ end
+      → Ran chunk edits (ahead n words m) at ps out out₂ a to ps′
+  unfolding ahead
+  ran-ahead {A} {m} n words {at} {to} {end} {ps} {ps′} {out} {out₁} {out₂} {a} long p q = record {
+    answered = p .answered;
+    put = subst (λ bytes. Put out at bytes out₂ to) bytes (put-ahead behind q);
+    pools-left = p .pools-left;
+  }
+    where
+      placed : Placed Text Text A
+      placed = m (at + 4 * n) ps
+
+      start : at + 4 * n ≡ at + length (joinedBytes (words a))
+      start = omega (arith, length-joined (words a), long)
+
+      behind : Put out (at + length (joinedBytes (words a))) (cellBytes chunk edits (placed .cells)) out₁ to
+      behind = subst (λ k. Put out k (cellBytes chunk edits (placed .cells)) out₁ to) start (p .put)
+
+      bytes : joinedBytes (words a) ++ cellBytes chunk edits (placed .cells) ≡ cellBytes chunk edits (wordCells (words (placed .result)) ++ placed .cells)
+      bytes =
+          ap (λ (x : A). joinedBytes (words x) ++ cellBytes chunk edits (placed .cells)) (sym (p .answered))
+          ∙ ap (λ (l : List ℕ). l ++ cellBytes chunk edits (placed .cells)) (sym (cell-bytes-words chunk edits (words (placed .result))))
+          ∙ sym (cell-bytes-append chunk edits (wordCells (words (placed .result))) (placed .cells))

@@ -1,0 +1,150 @@
+-- Runs of steps: what the code did in turn is a run of the step that the definition puts together, one law for each way of putting steps together. A run's bytes
+-- follow those of the run before it, since the cursor moves by as many bytes as there are cells.
+use mathlib.Core.Path.{_≡_, refl, ap, sym, _∙_, subst}
+use mathlib.Core.Bool.{Bool, true, false}
+use mathlib.Core.List.{List, [], _∷_, _++_}
+use mathlib.Core.Option.{Option, none, some}
+use Prim.Native.Nat.{ℕ, zero, suc, _+_}
+use lib.ListN.{length, replicate, length-replicate}
+use Rattle.words.specs.Splice.{Put, put-none, put-then}
+use Rattle.reflection.specs.declared.Text.{Text}
+use Rattle.reflection.specs.Reflection.{TypeDesc}
+use Rattle.writing.specs.Step.{Cell, byte, Pools, Placed, Step, _>>=_, return, append, remember, pad, paddingAt, wordCells, found, once, rememberIf, unlessEmpty, below, goDown, comeUp}
+use Rattle.placing.specs.Ran.{Ran, cellBytes}
+use Rattle.placing.specs.Bytes.{joinedBytes}
+use Rattle.placing.proofs.CellBytes.{length-cell-bytes, cell-bytes-append, cell-bytes-none, cell-bytes-words, cell-bytes-padding}
+
+module _ (chunk edits : List ℕ) where
+  -- nothing was written
+  put-no-cells : (out : List ℕ) (at : ℕ) → Put out at (cellBytes chunk edits []) out at
+  put-no-cells out at = subst (λ bytes. Put out at bytes out at) (sym (cell-bytes-none chunk edits)) (put-none out at)
+
+  -- two steps, the second made from the first one's result
+  pub ran-bind : {A B : Type 0} {m : Step Text Text A} (f : A → Step Text Text B) {at to₁ to₂ : ℕ} {ps ps₁ ps₂ : Pools Text Text} {out out₁ out₂ : List ℕ} {a : A} {b : B}
+      → Ran chunk edits m at ps out out₁ a to₁ ps₁ → Ran chunk edits (f a) to₁ ps₁ out₁ out₂ b to₂ ps₂ → Ran chunk edits (m >>= f) at ps out out₂ b to₂ ps₂
+  unfolding _>>=_
+  ran-bind {A} {B} {m} f {at} {to₁} {to₂} {ps} {ps₁} {ps₂} {out} {out₁} {out₂} {a} {b} p q = record {
+    answered = ap (λ (x : Placed Text Text B). x .result) second ∙ q .answered;
+    put = subst (λ bytes. Put out at bytes out₂ to₂) bytes (put-then (p .put) (q .put));
+    pools-left = ap (λ (x : Placed Text Text B). x .pools-after) second ∙ q .pools-left;
+  }
+    where
+      first : Placed Text Text A
+      first = m at ps
+
+      cursor : at + length (first .cells) ≡ to₁
+      cursor = ap (λ (n : ℕ). at + n) (sym (length-cell-bytes chunk edits (first .cells))) ∙ sym (p .put .next)
+
+      second : f (first .result) (at + length (first .cells)) (first .pools-after) ≡ f a to₁ ps₁
+      second = λ i. f (p .answered i) (cursor i) (p .pools-left i)
+
+      bytes : cellBytes chunk edits (first .cells) ++ cellBytes chunk edits (f a to₁ ps₁ .cells)
+          ≡ cellBytes chunk edits (first .cells ++ f (first .result) (at + length (first .cells)) (first .pools-after) .cells)
+      bytes =
+          ap (λ (x : Placed Text Text B). cellBytes chunk edits (first .cells) ++ cellBytes chunk edits (x .cells)) (sym second)
+          ∙ sym (cell-bytes-append chunk edits (first .cells) (f (first .result) (at + length (first .cells)) (first .pools-after) .cells))
+
+  pub ran-return : {A : Type 0} (a : A) (at : ℕ) (ps : Pools Text Text) (out : List ℕ) → Ran chunk edits (return a) at ps out out a at ps
+  unfolding return
+  ran-return a at ps out = record { answered = refl; put = put-no-cells out at; pools-left = refl }
+
+  -- cells whose bytes are known
+  pub ran-append : (cells : List (Cell Text Text)) {at to : ℕ} {ps : Pools Text Text} {out out′ bytes : List ℕ} → cellBytes chunk edits cells ≡ bytes → Put out at bytes out′ to
+      → Ran chunk edits (append cells) at ps out out′ at to ps
+  unfolding append
+  ran-append cells {at} {to} {ps} {out} {out′} e p = record { answered = refl; put = subst (λ bytes. Put out at bytes out′ to) (sym e) p; pools-left = refl }
+
+  pub ran-append-words : (ws : List ℕ) {at to : ℕ} {ps : Pools Text Text} {out out′ : List ℕ} → Put out at (joinedBytes ws) out′ to
+      → Ran chunk edits (append (wordCells ws)) at ps out out′ at to ps
+  ran-append-words ws p = ran-append (wordCells ws) (cell-bytes-words chunk edits ws) p
+
+  pub ran-pad : {at to : ℕ} {ps : Pools Text Text} {out out′ : List ℕ} → Put out at (replicate (paddingAt at) 0xab) out′ to → Ran chunk edits pad at ps out out′ to to ps
+  unfolding pad
+  ran-pad {at} {to} {ps} {out} {out′} p = record {
+    answered = ap (λ (n : ℕ). at + n) (sym (length-replicate (paddingAt at) 0xab)) ∙ sym (p .next);
+    put = subst (λ bytes. Put out at bytes out′ to) (sym (cell-bytes-padding chunk edits (paddingAt at) 0xab)) p;
+    pools-left = refl;
+  }
+
+  pub ran-remember : (add : ℕ → Pools Text Text → Pools Text Text) (offset at : ℕ) (ps : Pools Text Text) (out : List ℕ)
+      → Ran chunk edits (remember add offset) at ps out out offset at (add offset ps)
+  unfolding remember
+  ran-remember add offset at ps out = record { answered = refl; put = put-no-cells out at; pools-left = refl }
+
+  pub ran-remember-if-shared : (share : Bool) (add : ℕ → Pools Text Text → Pools Text Text) (offset at : ℕ) (ps : Pools Text Text) (out : List ℕ) → share ≡ true
+      → Ran chunk edits (rememberIf share add offset) at ps out out offset at (add offset ps)
+  unfolding rememberIf
+  ran-remember-if-shared share add offset at ps out e =
+      subst (λ b. Ran chunk edits (rememberIf b add offset) at ps out out offset at (add offset ps)) (sym e) (ran-remember add offset at ps out)
+
+  pub ran-remember-if-unshared : (share : Bool) (add : ℕ → Pools Text Text → Pools Text Text) (offset at : ℕ) (ps : Pools Text Text) (out : List ℕ) → share ≡ false
+      → Ran chunk edits (rememberIf share add offset) at ps out out offset at ps
+  unfolding rememberIf
+  ran-remember-if-unshared share add offset at ps out e =
+      subst (λ b. Ran chunk edits (rememberIf b add offset) at ps out out offset at ps) (sym e) (ran-return offset at ps out)
+
+  -- what is empty, and what is not
+  pub ran-empty : (n : ℕ) (m : Step Text Text ℕ) (at : ℕ) (ps : Pools Text Text) (out : List ℕ) → n ≡ 0 → Ran chunk edits (unlessEmpty n m) at ps out out 0 at ps
+  unfolding unlessEmpty
+  ran-empty n m at ps out e = subst (λ k. Ran chunk edits (unlessEmpty k m) at ps out out 0 at ps) (sym e) (ran-return 0 at ps out)
+
+  pub ran-unless-empty : (n : ℕ) {m : Step Text Text ℕ} {at to offset : ℕ} {ps ps′ : Pools Text Text} {out out′ : List ℕ} → (n ≡ 0 → ⊥) → Ran chunk edits m at ps out out′ offset to ps′
+      → Ran chunk edits (unlessEmpty n m) at ps out out′ offset to ps′
+  unfolding unlessEmpty
+  ran-unless-empty zero h p = absurd (h refl)
+  ran-unless-empty (suc n) h p = p
+
+  -- what a pool has, and what it has not
+  ran-found : (looked : Option ℕ) (m : Step Text Text ℕ) (offset at : ℕ) (ps : Pools Text Text) (out : List ℕ) → looked ≡ some offset
+      → Ran chunk edits (found looked m) at ps out out offset at ps
+  ran-found looked m offset at ps out e =
+      subst (λ x. Ran chunk edits (found x m) at ps out out offset at ps) (sym e) (record { answered = refl; put = put-no-cells out at; pools-left = refl })
+
+  ran-absent : (looked : Option ℕ) {m : Step Text Text ℕ} {at to offset : ℕ} {ps ps′ : Pools Text Text} {out out′ : List ℕ} → looked ≡ none → Ran chunk edits m at ps out out′ offset to ps′
+      → Ran chunk edits (found looked m) at ps out out′ offset to ps′
+  ran-absent looked {m} {at} {to} {offset} {ps} {ps′} {out} {out′} e p =
+      subst (λ x. Ran chunk edits (found x m) at ps out out′ offset to ps′) (sym e) (record { answered = p .answered; put = p .put; pools-left = p .pools-left })
+
+  pub ran-once-found : (look : Pools Text Text → Option ℕ) (m : Step Text Text ℕ) (offset at : ℕ) (ps : Pools Text Text) (out : List ℕ) → look ps ≡ some offset
+      → Ran chunk edits (once true look m) at ps out out offset at ps
+  unfolding once
+  ran-once-found look m offset at ps out e =
+      let p = ran-found (look ps) m offset at ps out e in
+      record { answered = p .answered; put = p .put; pools-left = p .pools-left }
+
+  pub ran-once-fresh : (look : Pools Text Text → Option ℕ) {m : Step Text Text ℕ} {at to offset : ℕ} {ps ps′ : Pools Text Text} {out out′ : List ℕ} → look ps ≡ none
+      → Ran chunk edits m at ps out out′ offset to ps′ → Ran chunk edits (once true look m) at ps out out′ offset to ps′
+  unfolding once
+  ran-once-fresh look {ps = ps} e q =
+      let p = ran-absent (look ps) e q in
+      record { answered = p .answered; put = p .put; pools-left = p .pools-left }
+
+  -- where nothing is shared
+  pub ran-once-unshared : (shared : Bool) (look : Pools Text Text → Option ℕ) {m : Step Text Text ℕ} {at to offset : ℕ} {ps ps′ : Pools Text Text} {out out′ : List ℕ} → shared ≡ false
+      → Ran chunk edits m at ps out out′ offset to ps′ → Ran chunk edits (once shared look m) at ps out out′ offset to ps′
+  unfolding once
+  ran-once-unshared shared look {m} {at} {to} {offset} {ps} {ps′} {out} {out′} e p =
+      subst (λ b. Ran chunk edits (once b look m) at ps out out′ offset to ps′) (sym e) (record { answered = p .answered; put = p .put; pools-left = p .pools-left })
+
+  -- a member's type
+  pub ran-below : {A : Type 0} {m : Step Text Text A} {at to : ℕ} {ps ps′ : Pools Text Text} {out out′ : List ℕ} {a : A} → Ran chunk edits m at (goDown ps) out out′ a to ps′
+      → Ran chunk edits (below m) at ps out out′ a to (comeUp (ps .types) ps′)
+  unfolding below
+  ran-below {ps = ps} p = record { answered = p .answered; put = p .put; pools-left = ap (comeUp (ps .types)) (p .pools-left) }
+
+  -- the same run from equal pools to equal pools, with an equal result
+  pub ran-like : {A : Type 0} {m : Step Text Text A} {at to : ℕ} {ps qs ps′ qs′ : Pools Text Text} {out out′ : List ℕ} {a b : A} → ps ≡ qs → ps′ ≡ qs′ → a ≡ b
+      → Ran chunk edits m at ps out out′ a to ps′ → Ran chunk edits m at qs out out′ b to qs′
+  ran-like {A} {m} {at} {to} {ps} {qs} {ps′} {qs′} {out} {out′} {a} {b} before after same p =
+      subst (λ x. Ran chunk edits m at qs out out′ x to qs′) same
+      (subst (λ x. Ran chunk edits m at qs out out′ a to x) after (subst (λ x. Ran chunk edits m at x out out′ a to ps′) before p))
+
+  -- the same run of an equal step, and where the cursors and outputs are equal
+  pub ran-step : {A : Type 0} {m n : Step Text Text A} {at to : ℕ} {ps ps′ : Pools Text Text} {out out′ : List ℕ} {a : A} → m ≡ n
+      → Ran chunk edits m at ps out out′ a to ps′ → Ran chunk edits n at ps out out′ a to ps′
+  ran-step {A} {m} {n} {at} {to} {ps} {ps′} {out} {out′} {a} e p = subst (λ x. Ran chunk edits x at ps out out′ a to ps′) e p
+
+  pub ran-to : {A : Type 0} {m : Step Text Text A} {at to to′ : ℕ} {ps ps′ : Pools Text Text} {out out′ out″ : List ℕ} {a : A} → to ≡ to′ → out′ ≡ out″
+      → Ran chunk edits m at ps out out′ a to ps′ → Ran chunk edits m at ps out out″ a to′ ps′
+  ran-to {A} {m} {at} {to} {to′} {ps} {ps′} {out} {out′} {out″} {a} e h p =
+      subst (λ x. Ran chunk edits m at ps out out″ a x ps′) e (subst (λ x. Ran chunk edits m at ps out x a to ps′) h p)

@@ -1,0 +1,284 @@
+-- What a readable reflection's tables hold: the reflection that they decode to, whose contents are readable, and counts and lengths within document 01's room.
+-- Each step of `held` gave something; decoding keeps the counts, since every record, variable and node that is counted is used.
+use mathlib.Core.Path.{_≡_, refl, sym, ap, _∙_}
+use mathlib.Core.Bool.{Bool, true, false, _&&_}
+use mathlib.Core.List.{List, [], _∷_, _++_, map, map-append}
+use mathlib.Core.Option.{Option, none, some}
+use Prim.Native.Nat.{ℕ, zero, suc, _+_, _/_, _≤_}
+use native.Mathlib.Nat.{zero-add}
+use native.Mathlib.Omega.{arith}
+use borrow.Author.Tests.{leb-true}
+use lib.Dec.{leb}
+use lib.ListN.{length, take, drop, length-append, length-map, take-append-drop}
+use Rattle.text.proofs.Bools.{and-true}
+use Rattle.reflection.specs.declared.Text.{Text}
+use Rattle.reflection.specs.declared.ResourceDef.{ResourceDef as Header}
+use Rattle.reflection.specs.declared.CBufferDef.{CBufferDef as BufferRecord}
+use Rattle.reflection.specs.declared.CBufferVariable.{CBufferVariable as VariableRecord}
+use Rattle.reflection.specs.Texts.{textBytes}
+use Rattle.reflection.specs.Reflection.{mapBinding, TypeDesc, typeDesc, Members, noMember, member, memberCount, mapType, mapMembers, CBufferVariable, mapVariable, CBufferDef, mapBuffer, ResourceDef, mapDef, isSm5, isWide}
+use Rattle.reflection.specs.Nodes.{Node, nodesOf, nodesOfMembers, Built, _>>=_, membersFrom, typeFrom, typeLevels}
+use Rattle.reflection.specs.Records.{bindingWidth, bufferWidth, variableWidth, typeWidth, typeAt, variableAt, bufferAt, bindingAt}
+use Rattle.reflection.specs.Tables.{allVariables}
+use Rattle.reflection.specs.Decode.{check, recordsFrom, firstRecords, nodeFrom, variablesFrom, buffersFrom, bufferFrom, bindingFrom, variableFrom, decode}
+use Rattle.reflection.specs.Contents.{Bytes, contents, innerNames, outerNames}
+use Rattle.readable.specs.Readable.{readable, held, isReadable, readableContents, rd11Absent, textsInPlace, roomKept, nodeCount, every, variableReadable, bindingReadable, nameReadable, versionReadable}
+
+-- What a step that gave something was given.
+then-was : {A B : Type 0} (m : Option A) (f : A → Option B) (b : B) → (m >>= f) ≡ some b → (a : A) × (m ≡ some a) × (f a ≡ some b)
+unfolding _>>=_
+then-was none f b e = absurd (let apart : _≡_ {A = ℕ} 0 1 = cc in omega arith)
+then-was (some a) f b e = (a, refl, e)
+
+check-was : {B : Type 0} (test : Bool) (f : Unit {0} → Option B) (b : B) → (check test >>= f) ≡ some b → (test ≡ true) × (f tt ≡ some b)
+unfolding check _>>=_
+check-was true f b e = (refl, e)
+check-was false f b e = absurd (let apart : _≡_ {A = ℕ} 0 1 = cc in omega arith)
+
+some-was : {A : Type 0} {a b : A} → some a ≡ some b → a ≡ b
+some-was {a = a} e = ap (λ o. elim o [ none ↦ a | some x ↦ x ]) e
+
+length-records : {A : Type 0} (record-at : ℕ → A) (i n : ℕ) → length (recordsFrom record-at i n) ≡ n
+unfolding recordsFrom
+length-records record-at i zero = refl
+length-records record-at i (suc n) = ap suc (length-records record-at (suc i) n)
+
+-- A type has as many nodes whatever it is a member of.
+any-root : {N : Type 0} (n m : N) (a b : ℕ) (t : TypeDesc N) → length (nodesOf n a t) ≡ length (nodesOf m b t)
+unfolding nodesOf
+any-root n m a b (typeDesc k name ms) = refl
+
+-- Building uses up exactly the nodes of what it builds.
+members-used : {N : Type 0} (build : List (Node N) → Option (Built N))
+    → ((xs : List (Node N)) (b : Built N) → build xs ≡ some b → length (nodesOf (b .member-name) 0 (b .type)) + length (b .left) ≡ length xs)
+    → (n : ℕ) (xs : List (Node N)) (r : Members N × List (Node N)) → membersFrom build n xs ≡ some r → length (nodesOfMembers (r .0)) + length (r .1) ≡ length xs
+unfolding membersFrom nodesOfMembers
+members-used build one zero xs r e = ap (λ (q : Members _ × List (Node _)). length (nodesOfMembers (q .0)) + length (q .1)) (sym (some-was e)) ∙ zero-add (length xs)
+members-used build one (suc n) xs r e =
+    let (t, built, e₁) = then-was (build xs) _ r e in
+    let (ms, others, e₂) = then-was (membersFrom build n (t .left)) _ r e₁ in
+    omega (
+      arith,
+      ap (λ (q : Members _ × List (Node _)). length (nodesOfMembers (q .0)) + length (q .1)) (some-was e₂),
+      length-append (nodesOf (t .member-name) (t .member-offset) (t .type)) (nodesOfMembers (ms .0)),
+      any-root (t .member-name) (t .member-name) (t .member-offset) 0 (t .type),
+      one xs t built,
+      members-used build one n (t .left) ms others,
+    )
+
+type-used : {N : Type 0} (levels : ℕ) (xs : List (Node N)) (b : Built N) → typeFrom levels xs ≡ some b
+    → length (nodesOf (b .member-name) 0 (b .type)) + length (b .left) ≡ length xs
+unfolding typeFrom nodesOf
+type-used zero xs b e = absurd (let apart : _≡_ {A = ℕ} 0 1 = cc in omega arith)
+type-used (suc levels) [] b e = absurd (let apart : _≡_ {A = ℕ} 0 1 = cc in omega arith)
+type-used (suc levels) (x ∷ xs) b e =
+    let (ms, built, e₁) = then-was (membersFrom (typeFrom levels) (x .member-count) xs) _ b e in
+    omega (
+      arith,
+      ap (λ (q : Built _). length (nodesOf (q .member-name) 0 (q .type)) + length (q .left)) (some-was e₁),
+      members-used (typeFrom levels) (type-used levels) (x .member-count) xs ms built,
+    )
+
+variables-used : (vs : List VariableRecord) (ns : List (Node Text)) (typed : List (CBufferVariable Text Text)) → variablesFrom vs ns ≡ some typed
+    → (nodeCount typed ≡ length ns) × (length typed ≡ length vs)
+unfolding variablesFrom variableFrom nodeCount
+variables-used [] [] typed e = (ap nodeCount (sym (some-was e)), ap length (sym (some-was e)))
+variables-used [] (n ∷ ns) typed e = absurd (let apart : _≡_ {A = ℕ} 0 1 = cc in omega arith)
+variables-used (v ∷ vs) ns typed e =
+    let (t, built, e₁) = then-was (typeFrom typeLevels ns) _ typed e in
+    let (others, after, e₂) = then-was (variablesFrom vs (t .left)) _ typed e₁ in
+    let (nodes, same) = variables-used vs (t .left) others after in
+    (omega (
+      arith,
+      ap nodeCount (some-was e₂),
+      any-root (v .name) (t .member-name) 0 0 (t .type),
+      type-used typeLevels ns t built,
+      nodes,
+    ),
+    omega (arith, ap length (some-was e₂), same))
+
+buffers-used : (bs : List BufferRecord) (vs : List (CBufferVariable Text Text)) (filled : List (CBufferDef Text Text)) → buffersFrom bs vs ≡ some filled
+    → (allVariables filled ≡ vs) × (length filled ≡ length bs)
+unfolding buffersFrom bufferFrom allVariables
+buffers-used [] [] filled e = (ap allVariables (sym (some-was e)), ap length (sym (some-was e)))
+buffers-used [] (v ∷ vs) filled e = absurd (let apart : _≡_ {A = ℕ} 0 1 = cc in omega arith)
+buffers-used (b ∷ bs) vs filled e =
+    let (long, e₁) = check-was (leb (b .«variable_count») (length vs)) _ filled e in
+    let (others, after, e₂) = then-was (buffersFrom bs (drop (b .«variable_count») vs)) _ filled e₁ in
+    let (rest, same) = buffers-used bs (drop (b .«variable_count») vs) others after in
+    (ap allVariables (sym (some-was e₂)) ∙ ap (λ ws. take (b .«variable_count») vs ++ ws) rest ∙ take-append-drop (b .«variable_count») vs,
+    omega (arith, ap length (some-was e₂), same))
+
+-- Contents count as what they are of.
+module _ {N M D E : Type 0} (f : N → M) (g : D → E) where
+  mutual
+    unfolding nodesOf mapType
+
+    same-nodes : (n : N) (m : M) (t : TypeDesc N) → length (nodesOf m 0 (mapType f t)) ≡ length (nodesOf n 0 t)
+    same-nodes n m (typeDesc k name ms) = ap suc (same-member-nodes ms)
+
+    same-member-nodes : (ms : Members N) → length (nodesOfMembers (mapMembers f ms)) ≡ length (nodesOfMembers ms)
+    same-member-nodes noMember = refl
+    same-member-nodes (member n o t ms) =
+        omega (
+          arith,
+          length-append (nodesOf (f n) o (mapType f t)) (nodesOfMembers (mapMembers f ms)),
+          length-append (nodesOf n o t) (nodesOfMembers ms),
+          any-root (f n) (f n) o 0 (mapType f t),
+          any-root n n o 0 t,
+          same-nodes n (f n) t,
+          same-member-nodes ms,
+        )
+
+  same-node-count : (vs : List (CBufferVariable N D)) → nodeCount (map (mapVariable f g) vs) ≡ nodeCount vs
+  unfolding nodeCount mapVariable
+  same-node-count [] = refl
+  same-node-count (v ∷ vs) = omega (arith, same-nodes (v .name) (f (v .name)) (v .var-type), same-node-count vs)
+
+  pub variables-map : (bs : List (CBufferDef N D)) → allVariables (map (mapBuffer f g) bs) ≡ map (mapVariable f g) (allVariables bs)
+  unfolding allVariables mapBuffer
+  variables-map [] = refl
+  variables-map (b ∷ bs) = ap (λ ws. map (mapVariable f g) (b .variables) ++ ws) (variables-map bs) ∙ sym (map-append (mapVariable f g) (b .variables) (allVariables bs))
+
+-- What the tables of a readable reflection hold, and how much.
+pub record Readable (chunk edits : Bytes) (h : Header) (bindings buffers variables types : List ℕ) : Type 0 where
+  pub def : ResourceDef Text Text
+  pub decoded : decode h bindings buffers variables types ≡ some def
+  pub is-held : held chunk edits h bindings buffers variables types ≡ some (contents chunk edits def)
+  pub is-readable : readableContents (contents chunk edits def) ≡ true
+  pub chunk-long : length chunk ≤ 65536
+  pub edits-long : length edits ≤ 65536
+  pub binding-count : h .«binding_count» ≤ 1024
+  pub buffer-count : h .«buffer_count» ≤ 64
+  pub variable-count : h .«variable_count» ≤ 2048
+  pub type-count : h .«type_count» ≤ 4096
+  pub bindings-inside : h .«binding_count» ≤ length bindings / bindingWidth
+  pub buffers-inside : h .«buffer_count» ≤ length buffers / bufferWidth
+  pub variables-inside : h .«variable_count» ≤ length variables / variableWidth
+  pub types-inside : h .«type_count» ≤ length types / typeWidth
+
+-- How much was decoded.
+record Counted (h : Header) (bindings buffers variables types : List ℕ) (r : ResourceDef Text Text) : Type 0 where
+  binding-count : length (r .bindings) ≡ h .«binding_count»
+  buffer-count : length (r .constant-buffers) ≡ h .«buffer_count»
+  variable-count : length (allVariables (r .constant-buffers)) ≡ h .«variable_count»
+  type-count : nodeCount (allVariables (r .constant-buffers)) ≡ h .«type_count»
+  bindings-inside : h .«binding_count» ≤ length bindings / bindingWidth
+  buffers-inside : h .«buffer_count» ≤ length buffers / bufferWidth
+  variables-inside : h .«variable_count» ≤ length variables / variableWidth
+  types-inside : h .«type_count» ≤ length types / typeWidth
+
+first-was : {A : Type 0} (width : ℕ) (record-at : List ℕ → ℕ → A) (t : List ℕ) (n : ℕ) (xs : List A) → firstRecords width record-at t n ≡ some xs
+    → (n ≤ length t / width) × (length xs ≡ n)
+unfolding firstRecords
+first-was width record-at t n xs e =
+    let (inside, e₁) = check-was (leb n (length t / width)) _ xs e in
+    (leb-true n (length t / width) inside, ap length (sym (some-was e₁)) ∙ length-records (record-at t) 0 n)
+
+decode-counts : (h : Header) (bindings buffers variables types : List ℕ) (r : ResourceDef Text Text) → decode h bindings buffers variables types ≡ some r
+    → Counted h bindings buffers variables types r
+unfolding decode
+decode-counts h bindings buffers variables types r e =
+    let (bs, b, e₁) = then-was (firstRecords bindingWidth bindingAt bindings (h .«binding_count»)) _ r e in
+    let (cs, c, e₂) = then-was (firstRecords bufferWidth bufferAt buffers (h .«buffer_count»)) _ r e₁ in
+    let (vs, v, e₃) = then-was (firstRecords variableWidth variableAt variables (h .«variable_count»)) _ r e₂ in
+    let (ts, t, e₄) = then-was (firstRecords typeWidth typeAt types (h .«type_count»)) _ r e₃ in
+    let (typed, with-types, e₅) = then-was (variablesFrom vs (map nodeFrom ts)) _ r e₄ in
+    let (filled, in-buffers, e₆) = then-was (buffersFrom cs typed) _ r e₅ in
+    let is = some-was e₆ in
+    let used = variables-used vs (map nodeFrom ts) typed with-types in
+    let all = buffers-used cs typed filled in-buffers in
+    record {
+      binding-count = ap (λ (q : ResourceDef Text Text). length (q .bindings)) (sym is) ∙ length-map bs bindingFrom ∙ first-was bindingWidth bindingAt bindings _ bs b .1;
+      buffer-count = ap (λ (q : ResourceDef Text Text). length (q .constant-buffers)) (sym is) ∙ all .1 ∙ first-was bufferWidth bufferAt buffers _ cs c .1;
+      variable-count =
+          ap (λ (q : ResourceDef Text Text). length (allVariables (q .constant-buffers))) (sym is) ∙ ap length (all .0) ∙ used .1 ∙ first-was variableWidth variableAt variables _ vs v .1;
+      type-count =
+          ap (λ (q : ResourceDef Text Text). nodeCount (allVariables (q .constant-buffers))) (sym is) ∙ ap nodeCount (all .0) ∙ used .0 ∙ length-map ts nodeFrom
+          ∙ first-was typeWidth typeAt types _ ts t .1;
+      bindings-inside = first-was bindingWidth bindingAt bindings _ bs b .0;
+      buffers-inside = first-was bufferWidth bufferAt buffers _ cs c .0;
+      variables-inside = first-was variableWidth variableAt variables _ vs v .0;
+      types-inside = first-was typeWidth typeAt types _ ts t .0;
+    }
+
+-- Room that the contents keep is kept by what they are of.
+record Kept (r : ResourceDef Text Text) : Type 0 where
+  bindings : length (r .bindings) ≤ 1024
+  buffers : length (r .constant-buffers) ≤ 64
+  variables : length (allVariables (r .constant-buffers)) ≤ 2048
+  types : nodeCount (allVariables (r .constant-buffers)) ≤ 4096
+
+readable-room : (c : ResourceDef Bytes Bytes) → readableContents c ≡ true → roomKept c ≡ true
+unfolding readableContents
+readable-room c e =
+    let vs = every (variableReadable (isSm5 (c .rd11))) (allVariables (c .constant-buffers)) in
+    let bs = every (bindingReadable (isWide (c .rd11))) (c .bindings) in
+    let inner = every nameReadable (innerNames c) in
+    let outer = every nameReadable (outerNames c) in
+    and-true vs (roomKept c)
+    (and-true bs (vs && roomKept c)
+    (and-true inner (bs && (vs && roomKept c))
+    (and-true outer (inner && (bs && (vs && roomKept c))) (and-true (versionReadable (c .target-version) (c .rd11)) (outer && (inner && (bs && (vs && roomKept c)))) e .1) .1) .1) .1)
+    .1
+
+contents-room : (chunk edits : Bytes) (r : ResourceDef Text Text) → roomKept (contents chunk edits r) ≡ true → Kept r
+unfolding roomKept contents mapDef
+contents-room chunk edits r e =
+    let f = textBytes chunk edits in
+    let vs = allVariables (r .constant-buffers) in
+    let all = variables-map f f (r .constant-buffers) in
+    let nb = length (map (mapBinding f) (r .bindings)) in
+    let nf = length (map (mapBuffer f f) (r .constant-buffers)) in
+    let nv = length (allVariables (map (mapBuffer f f) (r .constant-buffers))) in
+    let nt = nodeCount (allVariables (map (mapBuffer f f) (r .constant-buffers))) in
+    let (b, e₁) = and-true (leb nb 1024) (leb nf 64 && (leb nv 2048 && leb nt 4096)) e in
+    let (c, e₂) = and-true (leb nf 64) (leb nv 2048 && leb nt 4096) e₁ in
+    let (v, t) = and-true (leb nv 2048) (leb nt 4096) e₂ in
+    record {
+      bindings = omega (arith, leb-true nb 1024 b, length-map (r .bindings) (mapBinding f));
+      buffers = omega (arith, leb-true nf 64 c, length-map (r .constant-buffers) (mapBuffer f f));
+      variables = omega (arith, leb-true nv 2048 v, ap length all, length-map vs (mapVariable f f));
+      types = omega (arith, leb-true nt 4096 t, ap nodeCount all, same-node-count f f vs);
+    }
+
+module _ (chunk edits : Bytes) (h : Header) (bindings buffers variables types : List ℕ) where
+  is-some : (o : Option (ResourceDef Bytes Bytes)) → isReadable o ≡ true → (r : ResourceDef Bytes Bytes) × (o ≡ some r) × (readableContents r ≡ true)
+  is-some none e = absurd (let apart : _≡_ {A = ℕ} 0 1 = cc in omega arith)
+  is-some (some r) e = (r, refl, e)
+
+  held-holds : (c : ResourceDef Bytes Bytes) → held chunk edits h bindings buffers variables types ≡ some c → readableContents c ≡ true
+      → Readable chunk edits h bindings buffers variables types
+  unfolding held
+  held-holds c e passes =
+      let (long, e₁) = check-was (leb (length chunk) 65536 && leb (length edits) 65536) _ c e in
+      let (absent, e₂) = check-was (rd11Absent h) _ c e₁ in
+      let (r, decoded, e₃) = then-was (decode h bindings buffers variables types) _ c e₂ in
+      let (placed, e₄) = check-was (textsInPlace chunk edits r) _ c e₃ in
+      let is = some-was e₄ in
+      let readable-def = ap readableContents is ∙ passes in
+      let kept = contents-room chunk edits r (readable-room (contents chunk edits r) readable-def) in
+      let counted = decode-counts h bindings buffers variables types r decoded in
+      let (chunk-long, edits-long) = and-true (leb (length chunk) 65536) (leb (length edits) 65536) long in
+      record {
+        def = r;
+        decoded = decoded;
+        is-held = e ∙ ap some (sym is);
+        is-readable = readable-def;
+        chunk-long = leb-true (length chunk) 65536 chunk-long;
+        edits-long = leb-true (length edits) 65536 edits-long;
+        binding-count = omega (arith, kept .bindings, counted .binding-count);
+        buffer-count = omega (arith, kept .buffers, counted .buffer-count);
+        variable-count = omega (arith, kept .variables, counted .variable-count);
+        type-count = omega (arith, kept .types, counted .type-count);
+        bindings-inside = counted .bindings-inside;
+        buffers-inside = counted .buffers-inside;
+        variables-inside = counted .variables-inside;
+        types-inside = counted .types-inside;
+      }
+
+  pub readable-holds : readable chunk edits h bindings buffers variables types ≡ true → Readable chunk edits h bindings buffers variables types
+  unfolding readable
+  readable-holds e =
+      let (c, is, passes) = is-some (held chunk edits h bindings buffers variables types) e in
+      held-holds c is passes

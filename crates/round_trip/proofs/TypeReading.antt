@@ -1,0 +1,196 @@
+-- A type descriptor whose words, name and member records stand in the final cells reads as the type. Every descriptor below it lies at a smaller offset, so
+-- no path meets itself.
+use mathlib.Core.Path.{_≡_, refl, ap, sym, _∙_, subst}
+use mathlib.Core.List.{List, [], _∷_, _++_, map}
+use mathlib.Core.Bool.{Bool, true, false, not}
+use Prim.Native.Nat.{ℕ, zero, suc, _+_, _*_, _<_, _≤_, _/_, _%_}
+use native.Mathlib.Omega.{arith}
+use native.Mathlib.Nat.{add-zero, add-assoc}
+use lib.ListN.{length, getD}
+use Rattle.words.specs.Words.{wordAt, lowAt, highAt}
+use Rattle.words.specs.Parts.{inside}
+use Rattle.text.specs.declared.Found.{Found}
+use Rattle.text.specs.declared.Found.the-variants.{At, Bad}
+use Rattle.text.specs.Strings.{cstringAt}
+use Rattle.reflection.specs.declared.Text.{Text}
+use Rattle.reflection.specs.Reflection.{TypeNumbers, TypeDesc, typeDesc, Members, noMember, member, memberCount, mapType, mapMembers}
+use Rattle.reflection.specs.Nodes.{Fits, FitsAll}
+use Rattle.reflection.specs.Texts.{inChunk}
+use Rattle.reflection.specs.Contents.{Bytes}
+use Rattle.reading.specs.Step.{room}
+use Rattle.reading.specs.Read.{typeStride, wordIf, onPath, readMembers, cstringOrEmpty, typeNameAt, numbersFrom, readType}
+use Rattle.writing.specs.Step.{Cell}
+use Rattle.writing.specs.Records.{halves, typeWords, wordsIf}
+use Rattle.round_trip.specs.RoundTrip.{Words}
+use Rattle.round_trip.proofs.Lists.{All, all-weaken}
+use Rattle.round_trip.proofs.Holds.{bytesOf, WordsAt, Longer, inside-bytes, words-first, row-word, words-fit, words-split, longer-word}
+use Rattle.round_trip.proofs.Rooms.{Takes, then-takes, free-then, then-free, return-takes, returns, check-takes, text-takes, type-takes, below-not-on-path}
+use Rattle.round_trip.proofs.Texts.{textIn, nameIn, NameAt, NameOrEmpty}
+use Rattle.round_trip.proofs.Steps.{typeSize, membersSize, TypeAt}
+use Rattle.round_trip.proofs.Conditions.{ReadableNumbers, NamedIf, ReadableType, ReadableMembers}
+
+-- Two numbers of 16 bits in a word.
+low-of-halves : (w a b : ℕ) → w ≡ halves a b → a < 65536 → w % 65536 ≡ a
+unfolding halves
+low-of-halves w a b e h = omega arith
+
+high-of-halves : (w a b : ℕ) → w ≡ halves a b → a < 65536 → w / 65536 ≡ b
+unfolding halves
+high-of-halves w a b e h = omega arith
+
+halves-small : (a b : ℕ) → a < 65536 → b < 65536 → halves a b < 4294967296
+unfolding halves
+halves-small a b h k = omega arith
+
+pub length-typeWords : (sm5 : Bool) (k : TypeNumbers) (count members name : ℕ) → 4 * length (typeWords sm5 k count members name) ≡ typeStride sm5
+unfolding typeWords
+length-typeWords false k count members name = refl
+length-typeWords true k count members name = refl
+
+-- What the words of a descriptor at o are read as.
+module _ (cells : List (Cell Bytes Bytes)) (sm5 : Bool) (k : TypeNumbers) (count members name o : ℕ) (fine : ReadableNumbers sm5 k) (few : count < 65536)
+    (small-members : members < 4294967296) (small-name : Longer sm5 name) (stands : WordsAt cells o (typeWords sm5 k count members name)) where
+  abbrev first : List ℕ
+  first = halves (k .class) (k .var-type) ∷ halves (k .rows) (k .columns) ∷ halves (k .elements) count ∷ members ∷ []
+
+  abbrev longer : List ℕ
+  longer = k .extra0 ∷ k .extra1 ∷ k .extra2 ∷ k .extra3 ∷ name ∷ []
+
+  row : WordsAt cells o (first ++ wordsIf sm5 longer)
+  unfolding typeWords
+  row = stands
+
+  word : (j : ℕ) → j < 4 → wordAt (bytesOf cells) (o + 4 * j) ≡ getD first j 0
+  unfolding Words
+  word j lt =
+      row-word cells o first j (halves-small _ _ (fine .class) (fine .var-type), (halves-small _ _ (fine .rows) (fine .columns), (halves-small _ _ (fine .elements) few, (small-members, tt)))) lt
+      (words-split cells o first (wordsIf sm5 longer) row .0)
+
+  longer-is : (j m : ℕ) → j < 5 → 16 + 4 * j ≡ m → wordIf sm5 (bytesOf cells) (o + m) ≡ getD longer j 0
+  longer-is j m lt e = longer-word cells sm5 o first longer j m (fine .extra0, (fine .extra1, (fine .extra2, (fine .extra3, (small-name, tt))))) lt e row
+
+  word-0 : wordAt (bytesOf cells) o ≡ halves (k .class) (k .var-type)
+  word-0 = ap (wordAt (bytesOf cells)) (sym (add-zero o)) ∙ word 0 (omega arith)
+
+  word-1 : wordAt (bytesOf cells) (o + 4) ≡ halves (k .rows) (k .columns)
+  word-1 = word 1 (omega arith)
+
+  word-2 : wordAt (bytesOf cells) (o + 8) ≡ halves (k .elements) count
+  word-2 = word 2 (omega arith)
+
+  numbers-read : numbersFrom (bytesOf cells) sm5 o ≡ k
+  unfolding numbersFrom lowAt highAt
+  numbers-read = λ i. record {
+    class = low-of-halves _ (k .class) (k .var-type) word-0 (fine .class) i;
+    var-type = high-of-halves _ (k .class) (k .var-type) word-0 (fine .class) i;
+    rows = low-of-halves _ (k .rows) (k .columns) word-1 (fine .rows) i;
+    columns = high-of-halves _ (k .rows) (k .columns) word-1 (fine .rows) i;
+    elements = low-of-halves _ (k .elements) count word-2 (fine .elements) i;
+    extra0 = longer-is 0 16 (omega arith) refl i;
+    extra1 = longer-is 1 20 (omega arith) refl i;
+    extra2 = longer-is 2 24 (omega arith) refl i;
+    extra3 = longer-is 3 28 (omega arith) refl i;
+  }
+
+  count-read : highAt (bytesOf cells) (o + 8) ≡ count
+  unfolding highAt
+  count-read = high-of-halves _ (k .elements) count word-2 (fine .elements)
+
+  members-read : wordAt (bytesOf cells) (o + 12) ≡ members
+  members-read = word 3 (omega arith)
+
+  descriptor-fits : o + typeStride sm5 ≤ length cells
+  descriptor-fits = omega (arith, words-fit cells o (typeWords sm5 k count members name) stands, length-typeWords sm5 k count members name)
+
+name-small : (cells : List (Cell Bytes Bytes)) (sm5 : Bool) (o : ℕ) (n : Bytes) → length cells ≤ 65536 → NamedIf sm5 n → NameOrEmpty cells o n → Longer sm5 o
+name-small cells false o n short named h = h .empty named
+name-small cells true o n short named h = omega (arith, h .small)
+
+type-name-found : (cells : List (Cell Bytes Bytes)) (sm5 : Bool) (at o : ℕ) (n : Bytes) → NamedIf sm5 n → NameOrEmpty cells o n → wordIf sm5 (bytesOf cells) (at + 32) ≡ o
+    → typeNameAt (bytesOf cells) sm5 at ≡ At o (length n)
+unfolding typeNameAt wordIf
+type-name-found cells false at o n named h e = λ i. At (e i) (sym named i)
+type-name-found cells true at o n named h e = ap (cstringOrEmpty (bytesOf cells)) e ∙ h .found
+
+-- The words of member records: each name is found, each type reads and lies below o.
+abbrev pub MembersAt : List (Cell Bytes Bytes) → Bool → Members Bytes → List ℕ → ℕ → Type 0
+MembersAt cells sm5 noMember [] o = Unit {0}
+MembersAt cells sm5 noMember (x ∷ ws) o = ⊥
+MembersAt cells sm5 (member n f t ms) [] o = ⊥
+MembersAt cells sm5 (member n f t ms) (x ∷ []) o = ⊥
+MembersAt cells sm5 (member n f t ms) (x ∷ y ∷ []) o = ⊥
+MembersAt cells sm5 (member n f t ms) (name ∷ type ∷ offset ∷ ws) o = NameAt cells name n × TypeAt cells sm5 type t × (type < o) × (offset ≡ f) × MembersAt cells sm5 ms ws o
+
+pub members-later : (cells : List (Cell Bytes Bytes)) (sm5 : Bool) (ms : Members Bytes) (ws : List ℕ) (o o′ : ℕ) → o ≤ o′ → MembersAt cells sm5 ms ws o → MembersAt cells sm5 ms ws o′
+members-later cells sm5 noMember [] o o′ le h = tt
+members-later cells sm5 noMember (x ∷ ws) o o′ le h = h
+members-later cells sm5 (member n f t ms) [] o o′ le h = h
+members-later cells sm5 (member n f t ms) (x ∷ []) o o′ le h = h
+members-later cells sm5 (member n f t ms) (x ∷ y ∷ []) o o′ le h = h
+members-later cells sm5 (member n f t ms) (name ∷ type ∷ offset ∷ ws) o o′ le h = (h .0, h .1, omega (arith, h .2), h .3, members-later cells sm5 ms ws o o′ le (h .4))
+
+pub no-members : (cells : List (Cell Bytes Bytes)) (sm5 : Bool) (ms : Members Bytes) (ws : List ℕ) (o : ℕ) → memberCount ms ≡ 0 → MembersAt cells sm5 ms ws o → _≡_ {A = List ℕ} [] ws
+unfolding memberCount
+no-members cells sm5 noMember [] o e h = refl
+no-members cells sm5 noMember (x ∷ ws) o e h = absurd h
+no-members cells sm5 (member n f t ms) ws o e h = absurd (omega (arith, e))
+
+module _ (cells : List (Cell Bytes Bytes)) (sm5 : Bool) (short : length cells ≤ 65536) where
+  members-read-back : (o levels : ℕ) (path : List ℕ) → All (λ q. o < q) path → (ms : Members Bytes) (ws : List ℕ) (at : ℕ) → ReadableMembers sm5 ms → FitsAll ms levels
+      → MembersAt cells sm5 ms ws o → WordsAt cells at ws
+      → (p : Members Text) × Takes (readMembers (λ below. readType (bytesOf cells) sm5 levels (o ∷ path) below) (bytesOf cells) (memberCount ms) at) (room 0 0 0 (membersSize ms)) p
+      × (mapMembers (textIn cells) p ≡ mapMembers nameIn ms)
+  unfolding readMembers memberCount mapMembers FitsAll membersSize ReadableMembers
+  members-read-back o levels path above noMember [] at fine fits all h = (noMember, return-takes noMember, refl)
+  members-read-back o levels path above noMember (x ∷ ws) at fine fits all h = absurd all
+  members-read-back o levels path above (member n f t ms) [] at fine fits all h = absurd all
+  members-read-back o levels path above (member n f t ms) (x ∷ []) at fine fits all h = absurd all
+  members-read-back o levels path above (member n f t ms) (x ∷ y ∷ []) at fine fits all h = absurd all
+  members-read-back o levels path above (member n f t ms) (name ∷ type ∷ offset ∷ ws) at fine fits all h =
+      let (w₀, h₁) = words-first cells at name (type ∷ offset ∷ ws) (omega (arith, all .0 .below-end)) h in
+      let (w₁, h₂) = words-first cells (at + 4) type (offset ∷ ws) (omega (arith, all .1 .below-end)) h₁ in
+      let (w₂, h₃) = words-first cells (at + 4 + 4) offset ws (omega (arith, all .3, fine .0)) h₂ in
+      let next : WordsAt cells (at + 12) ws = subst (λ a. WordsAt cells a ws) (let e : at + 4 + 4 + 4 ≡ at + 12 = omega arith in e) h₃ in
+      let (pt, et, vt) = all .1 .reads levels (o ∷ path) (fits .0) (all .2, all-weaken (λ q lt. omega (arith, all .2)) path above) in
+      let (pm, em, vm) = members-read-back o levels path above ms ws (at + 12) (fine .2) (fits .1) (all .4) next in
+      let off : wordAt (bytesOf cells) (at + 8) ≡ f = ap (wordAt (bytesOf cells)) (sym (add-assoc at 4 4)) ∙ w₂ ∙ all .3 in (
+        member (inChunk name (length n)) f pt pm,
+        free-then _ _ (check-takes _ 7 (inside-bytes cells at 12 (omega (arith, words-fit cells at (name ∷ type ∷ offset ∷ ws) h))))
+            (free-then _ _ (text-takes 11 _ name (length n) (ap (cstringAt (bytesOf cells)) w₀ ∙ all .0 .found))
+            (then-takes _ (room 0 0 0 (typeSize t)) (room 0 0 0 (membersSize ms)) (subst (λ x. Takes (readType (bytesOf cells) sm5 levels (o ∷ path) x) (room 0 0 0 (typeSize t)) pt) (sym w₁) et)
+            (then-free _ _ em (returns _ (member (inChunk name (length n)) f pt pm) (ap (λ (x : ℕ). member (inChunk name (length n)) x pt pm) off))))),
+        λ i. member (all .0 .is i) f (vt i) (vm i),
+      )
+
+  -- The descriptor at o, its member records at `members`, its name at `name`.
+  pub type-at : (o members name : ℕ) (k : TypeNumbers) (n : Bytes) (ms : Members Bytes) (ws : List ℕ) → ReadableType sm5 (typeDesc k n ms) → members ≤ o → MembersAt cells sm5 ms ws o
+      → NameOrEmpty cells name n → WordsAt cells members ws → o < length cells → WordsAt cells o (typeWords sm5 k (memberCount ms) members name) → TypeAt cells sm5 o (typeDesc k n ms)
+  unfolding readType Fits mapType typeSize ReadableType
+  type-at o members name k n ms ws fine le all named records below-end h = record { reads = reads; below-end = below-end }
+    where
+      small-members : members < 4294967296
+      small-members = omega arith
+
+      small-name : Longer sm5 name
+      small-name = name-small cells sm5 name n short (fine .1) named
+
+      reads : (levels : ℕ) (path : List ℕ) → Fits (typeDesc k n ms) levels → All (λ q. o < q) path
+          → (p : TypeDesc Text) × Takes (readType (bytesOf cells) sm5 levels path o) (room 0 0 0 (1 + membersSize ms)) p × (mapType (textIn cells) p ≡ mapType nameIn (typeDesc k n ms))
+      reads zero path fits above = absurd fits
+      reads (suc levels) path fits above =
+          let (pm, em, vm) = members-read-back o levels path above ms ws members (fine .3) fits all records in
+          let count = count-read cells sm5 k (memberCount ms) members name o (fine .0) (fine .2) small-members small-name h in
+          let where-members = members-read cells sm5 k (memberCount ms) members name o (fine .0) (fine .2) small-members small-name h in
+          let numbers = numbers-read cells sm5 k (memberCount ms) members name o (fine .0) (fine .2) small-members small-name h in
+          let where-name = longer-is cells sm5 k (memberCount ms) members name o (fine .0) (fine .2) small-members small-name h 4 32 (omega arith) refl in
+          let fits-here = descriptor-fits cells sm5 k (memberCount ms) members name o (fine .0) (fine .2) small-members small-name h in (
+            typeDesc k (inChunk name (length n)) pm,
+            free-then _ _ (check-takes (not (onPath o path)) 14 (ap not (below-not-on-path o path above)))
+                (then-takes _ (room 0 0 0 1) (room 0 0 0 (membersSize ms)) type-takes
+                (free-then _ _ (check-takes _ 7 (inside-bytes cells o (typeStride sm5) fits-here))
+                (then-free _ _ (subst (λ x. Takes (readMembers (λ below. readType (bytesOf cells) sm5 levels (o ∷ path) below) (bytesOf cells) x (wordAt (bytesOf cells) (o + 12))) (room 0 0 0 (membersSize ms)) pm) (sym count)
+                (subst (λ x. Takes (readMembers (λ below. readType (bytesOf cells) sm5 levels (o ∷ path) below) (bytesOf cells) (memberCount ms) x) (room 0 0 0 (membersSize ms)) pm) (sym where-members) em))
+                (then-free _ _ (text-takes 11 _ name (length n) (type-name-found cells sm5 o name n (fine .1) named where-name))
+                (returns _ _ (ap (λ (x : TypeNumbers). typeDesc x (inChunk name (length n)) pm) numbers)))))),
+            λ i. typeDesc k (named .is i) (vm i),
+          )

@@ -1,0 +1,7 @@
+// The types of a table: which of two are equal, and which node comes after one.
+mod same;
+mod skip;
+
+pub use same::same_type;
+pub use skip::has_member;
+pub use skip::skip_type;

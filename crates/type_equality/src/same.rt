@@ -1,0 +1,129 @@
+// Whether two types of the table are equal: their numbers, names and members (document 01, "Canonical form").
+ghost use mathlib.Core.Path.{_≡_};
+ghost use Prim.Native.Nat.{_≤_};
+ghost use Rattle.text.specs.Same.{sameBytes};
+ghost use Rattle.reflection.specs.Decode.{nodeFrom};
+ghost use Rattle.writing.specs.Same.{numbersOf, sameType, sameMembers};
+ghost use Rattle.type_equality.specs.Trees.{treeAt, membersAt, typeTree};
+ghost use Rattle.type_equality.specs.Same.{sameName};
+use crate::skip::has_member;
+use crate::skip::skip_type;
+use reflection::Text;
+use reflection::TypeDesc;
+
+// Whether two nodes have the same numbers, the member count left out.
+fn same_numbers(x: TypeDesc, y: TypeDesc) -> bool
+    ensures { λ r. ⌜ r ≡ sameBytes (numbersOf (nodeFrom x .numbers)) (numbersOf (nodeFrom y .numbers)) ⌝ }
+{
+    if x.class != y.class {
+        return false;
+    }
+    if x.var_type != y.var_type {
+        return false;
+    }
+    if x.rows != y.rows {
+        return false;
+    }
+    if x.columns != y.columns {
+        return false;
+    }
+    if x.elements != y.elements {
+        return false;
+    }
+    if x.extra0 != y.extra0 {
+        return false;
+    }
+    if x.extra1 != y.extra1 {
+        return false;
+    }
+    if x.extra2 != y.extra2 {
+        return false;
+    }
+    x.extra3 == y.extra3
+}
+
+// Whether two names have the same bytes.
+fn same_name<'a>(chunk: &'a [u8], edits: &'a [u8], x: Text, y: Text) -> bool
+    ensures { λ r. ⌜ r ≡ sameName (now (chunk .entry)) (now (edits .entry)) x y ⌝ }
+{
+    let a = reflection::name_part(chunk, edits, x);
+    let b = reflection::name_part(chunk, edits, y);
+    text::same_text(a, b)
+}
+
+// Whether the types at nodes a and b are equal, each with at most so many levels of members.
+pub fn same_type<'a>(
+    chunk: &'a [u8],
+    edits: &'a [u8],
+    types: &[u32],
+    a: usize,
+    b: usize,
+    levels: usize,
+) -> bool
+    requires { ⌜ (a ≤ 0x1000_0000_0000_0000) × (b ≤ 0x1000_0000_0000_0000) ⌝ }
+    ensures { λ r. ⌜ r ≡ sameType (sameName (now (chunk .entry)) (now (edits .entry))) (typeTree (now (types .entry)) levels a) (typeTree (now (types .entry)) levels b) ⌝ }
+{
+    let x = reflection::type_at(types, a);
+    let y = reflection::type_at(types, b);
+    if !same_numbers(x, y) {
+        return false;
+    }
+    if !same_name(chunk, edits, x.name, y.name) {
+        return false;
+    }
+    if levels == 0 {
+        return true;
+    }
+    same_members(
+        chunk,
+        edits,
+        types,
+        x.member_count,
+        a + 1,
+        y.member_count,
+        b + 1,
+        levels - 1,
+    )
+}
+
+// Whether m members from node a on and n members from node b on are equal. A loop, so that the stack holds at most two frames for each level.
+fn same_members<'a>(
+    chunk: &'a [u8],
+    edits: &'a [u8],
+    types: &[u32],
+    m: u32,
+    a: usize,
+    n: u32,
+    b: usize,
+    levels: usize,
+) -> bool
+    ensures { λ r. ⌜ r ≡ sameMembers (sameName (now (chunk .entry)) (now (edits .entry)))
+        (membersAt (treeAt (now (types .entry)) levels) (now (types .entry)) m a .it)
+        (membersAt (treeAt (now (types .entry)) levels) (now (types .entry)) n b .it) ⌝ }
+{
+    let mut left = m;
+    let mut other_left = n;
+    let mut i = a;
+    let mut j = b;
+    while has_member(types, left, i) {
+        if !has_member(types, other_left, j) {
+            return false;
+        }
+        let x = reflection::type_at(types, i);
+        let y = reflection::type_at(types, j);
+        if x.member_offset != y.member_offset {
+            return false;
+        }
+        if !same_name(chunk, edits, x.member_name, y.member_name) {
+            return false;
+        }
+        if !same_type(chunk, edits, types, i, j, levels) {
+            return false;
+        }
+        i = skip_type(types, i, levels);
+        j = skip_type(types, j, levels);
+        left -= 1;
+        other_left -= 1;
+    }
+    !has_member(types, other_left, j)
+}
