@@ -1,18 +1,16 @@
 -- THE HIDDEN ENDING (specs/HiddenEnding.antt), proved. The layout asks two things of a default: how long it is, and which others equal it. Both evenings
 -- answer alike, so theirs is one layout, filled in twice (Evenings.antt); a cell with a byte of a default lies in a default's place (Within.antt), and that
 -- is where reading finds the default, with its own bytes (crate round_trip). What refusals hang on agrees too (Answers.antt).
-use mathlib.Core.Path.{_≡_, ap, sym, _∙_, subst}
+use mathlib.Core.Path.{ap, sym, _∙_, subst}
 use mathlib.Core.List.{[], map}
-use mathlib.Core.Bool.{true}
 use Prim.Native.Nat.{ℕ, _≤_}
-use lib.ListN.{length}
 use Rattle.reflection.specs.declared.Text.{Text}
 use Rattle.reflection.specs.Reflection.{ResourceDef}
 use Rattle.reflection.specs.Texts.{textBytes}
 use Rattle.reflection.specs.Contents.{Bytes, contents, defaultsOf}
-use Rattle.readable.specs.Readable.{readableContents}
 use Rattle.writing.specs.Canonical.{canonical}
 use Rattle.round_trip.specs.RoundTrip.{NumbersAreWords, Restored}
+use Rattle.round_trip.proofs.RoundTrip.{round-trip}
 use Rattle.hidden_ending.specs.HiddenEnding.{SameButDefaults, DefaultsAt, Alike, Hidden}
 use Rattle.hidden_ending.proofs.Readable.{defaults-map}
 use Rattle.hidden_ending.proofs.Evenings.{placesIn, Common, evenings-common}
@@ -40,14 +38,12 @@ alike a b common back-a back-b = record {
   same-outside = common .same-outside;
 }
 
--- What is written reads back (crate round_trip).
-module _ (round-trip : (r : ResourceDef Bytes Bytes) → readableContents r ≡ true → NumbersAreWords r → length (canonical r) ≤ 65536 → Restored r) where
-  pub hidden-ending : (scratch room : ℕ) (a b : ResourceDef Bytes Bytes) → NumbersAreWords a → SameButDefaults a b → Hidden scratch room a b
-  hidden-ending scratch room a b words same =
-      same-answers scratch room a b common λ readable short.
-      let back-a = round-trip a readable words short in
-      let back-b = round-trip b (sym (common .same-readable) ∙ readable) (common .same-words words) (subst (λ (n : ℕ). n ≤ 65536) (common .same-length) short) in
-      alike a b common back-a back-b
-    where
-      common : Common a b
-      common = evenings-common a b same
+pub hidden-ending : (scratch room : ℕ) (a b : ResourceDef Bytes Bytes) → NumbersAreWords a → SameButDefaults a b → Hidden scratch room a b
+hidden-ending scratch room a b words same =
+    same-answers scratch room a b common λ readable short.
+    let back-a = round-trip a readable words short in
+    let back-b = round-trip b (sym (common .same-readable) ∙ readable) (common .same-words words) (subst (λ (n : ℕ). n ≤ 65536) (common .same-length) short) in
+    alike a b common back-a back-b
+  where
+    common : Common a b
+    common = evenings-common a b same

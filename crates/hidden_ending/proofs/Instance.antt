@@ -33,7 +33,8 @@ use Rattle.writing.specs.Examples.{floatsAB}
 use Rattle.round_trip.specs.RoundTrip
 use Rattle.round_trip.specs.RoundTrip.{NumbersAreWords}
 use Rattle.hidden_ending.specs.HiddenEnding
-use Rattle.hidden_ending.specs.HiddenEnding.{SameButDefaults}
+use Rattle.hidden_ending.specs.HiddenEnding.{SameButDefaults, Hidden}
+use Rattle.hidden_ending.proofs.HiddenEnding.{hidden-ending}
 
 -- A name for all that has to compute.
 unfoldable computing : Unit {0}
@@ -78,3 +79,6 @@ both-written = (refl, refl)
 pub differ : (getD (canonical one) 132 0 ≡ 1) × (getD (canonical other) 132 0 ≡ 9)
 unfolding computing
 differ = (refl, refl)
+
+pub hidden : Hidden Outcome.scratchSize 148 one other
+hidden = hidden-ending Outcome.scratchSize 148 one other numbers-are-words same-but-defaults

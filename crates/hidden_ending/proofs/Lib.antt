@@ -8,3 +8,4 @@ pub mod Evenings
 pub mod Answers
 pub mod HiddenEnding
 pub mod Instance
+pub mod Outputs

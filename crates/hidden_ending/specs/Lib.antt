@@ -1,1 +1,2 @@
 pub mod HiddenEnding
+pub mod Outputs

@@ -9,7 +9,7 @@ use borrow.Author.Tests.{leb-true, eqb-true}
 use lib.Dec.{leb, eqb}
 use lib.ListN.{length, length-append}
 use Rattle.text.proofs.Bools.{and-true}
-use Rattle.reflection.specs.Reflection.{TypeNumbers, TypeDesc, typeDesc, Members, noMember, member, memberCount, CBufferVariable, CBufferDef, ResourceBinding, ResourceDef, isSm5, isWide}
+use Rattle.reflection.specs.Reflection.{TypeNumbers, TypeDesc, typeDesc, Members, noMember, member, memberCount, CBufferVariable, CBufferDef, ResourceBinding, ResourceDef, isSm5, isWide, identifierOf, strideOf, slotsOf}
 use Rattle.reflection.specs.Nodes.{Fits, FitsAll, typeLevels}
 use Rattle.reflection.specs.Tables.{allVariables}
 use Rattle.reflection.specs.Contents.{Bytes, typeNames, memberNames, variableNames, outerNames, innerNames}
@@ -68,6 +68,7 @@ pub record ReadableBinding (wide : Bool) (b : ResourceBinding Bytes) : Type 0 wh
 
 pub record Readable (r : ResourceDef Bytes Bytes) : Type 0 where
   pub version : versionReadable (r .target-version) (r .rd11) ≡ true
+  pub words : Words (r .target-version ∷ r .compile-flags ∷ identifierOf (r .rd11) ∷ strideOf (r .rd11) ∷ slotsOf (r .rd11) ∷ [])
   pub creator : nameReadable (r .creator) ≡ true
   pub bindings : All (ReadableBinding (isWide (r .rd11))) (r .bindings)
   pub buffers : All (ReadableBuffer (isSm5 (r .rd11))) (r .constant-buffers)
@@ -209,6 +210,7 @@ readable-parts r e numbers =
     let (few, _) = and-true (leb (length vs) 2048) _ r₂ in
     record {
       version = version;
+      words = numbers .header;
       creator = creator .0;
       bindings = readable-bindings wide (r .bindings) (every-all (bindingReadable wide) (r .bindings) bindings) binding-names (numbers .bindings);
       buffers = readable-buffers sm5 (r .constant-buffers) buffer-names (leb-true (length vs) 2048 few) (every-all (variableReadable sm5) vs variables) variable-names (numbers .buffers);

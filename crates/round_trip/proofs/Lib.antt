@@ -7,3 +7,11 @@ pub mod Names
 pub mod Conditions
 pub mod TypeReading
 pub mod Types
+pub mod Tables
+pub mod Variables
+pub mod Bindings
+pub mod Buffers
+pub mod Maps
+pub mod Costs
+pub mod Header
+pub mod RoundTrip

@@ -113,3 +113,9 @@ unfolding rows
 length-rows row size len [] bs e = omega arith
 length-rows row size len (x ∷ xs) [] e = absurd (omega arith)
 length-rows row size len (x ∷ xs) (b ∷ bs) e = length-append (row x b) (rows row xs bs) ∙ omega (arith, len x b, length-rows row size len xs bs (omega arith))
+
+pub zip-length : {A B : Type 0} (Q : A → B → Type 0) (xs : List A) (bs : List B) → Zip Q xs bs → length bs ≡ length xs
+zip-length Q [] [] h = refl
+zip-length Q [] (b ∷ bs) h = absurd h
+zip-length Q (x ∷ xs) [] h = absurd h
+zip-length Q (x ∷ xs) (b ∷ bs) h = ap suc (zip-length Q xs bs (h .1))

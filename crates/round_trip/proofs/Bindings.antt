@@ -1,0 +1,144 @@
+-- Where bindings are placed, each of their records reads as the binding: by the law on names and by the words of the record.
+use mathlib.Core.Path.{_≡_, refl, ap, sym, _∙_, subst}
+use mathlib.Core.List.{List, [], _∷_, _++_, map}
+use mathlib.Core.Bool.{Bool, true, false}
+use Prim.Native.Nat.{ℕ, zero, suc, _+_, _*_, _/_, _<_, _≤_}
+use native.Mathlib.Omega.{arith}
+use native.Mathlib.Nat.{add-zero}
+use lib.Dec.{leb}
+use lib.ListN.{length, getD, length-map}
+use Rattle.words.specs.Words.{wordAt}
+use Rattle.text.specs.Strings.{cstringAt}
+use Rattle.reflection.specs.declared.Text.{Text}
+use Rattle.reflection.specs.Reflection.{ResourceBinding, mapBinding}
+use Rattle.reflection.specs.Texts.{inChunk}
+use Rattle.reflection.specs.Contents.{Bytes}
+use Rattle.reading.specs.Step.{room}
+use Rattle.reading.specs.Read.{bindingStride, wordIf, bindingFrom, readBinding}
+use Rattle.readable.specs.Readable.{nameReadable}
+use Rattle.writing.specs.Step.{Cell, Pools, Step, _>>=_, return, ahead}
+use Rattle.writing.specs.Records.{bindingWords, bindingSize, wordsIf, rows}
+use Rattle.writing.specs.Layout.{placeOuterName, placeOuterNames}
+use Rattle.writing.specs.Canonical.{bytesOracle}
+use Rattle.round_trip.specs.RoundTrip.{Words, bindingNumbers}
+use Rattle.round_trip.proofs.Lists.{All, all-weaken, all-to-map, Zip, length-rows}
+use Rattle.round_trip.proofs.Holds.{bytesOf, WordsAt, inside-bytes, row-word, words-fit, words-split, longer-word}
+use Rattle.round_trip.proofs.Rooms.{Takes, free-then, then-free, returns, check-takes, text-takes, binding-takes}
+use Rattle.round_trip.proofs.Texts.{textIn, nameIn, NameAt}
+use Rattle.round_trip.proofs.Steps.{Leaves, ahead-leaves}
+use Rattle.round_trip.proofs.Names.{placeOuterNames-leaves}
+use Rattle.round_trip.proofs.Conditions.{ReadableBinding}
+
+pub length-bindingWords : (wide : Bool) (b : ResourceBinding Bytes) (o : ℕ) → 4 * length (bindingWords wide b o) ≡ bindingStride wide
+unfolding bindingWords
+length-bindingWords false b o = refl
+length-bindingWords true b o = refl
+
+count-bindingWords : (wide : Bool) (b : ResourceBinding Bytes) (o : ℕ) → length (bindingWords wide b o) ≡ bindingSize wide
+count-bindingWords wide b o = omega (arith, length-bindingWords wide b o)
+
+-- As many offsets as names.
+pub outer-names-length : (ns : List Bytes) (at : ℕ) (ps : Pools Bytes Bytes) → length ns ≡ length (placeOuterNames bytesOracle ns at ps .result)
+unfolding placeOuterNames _>>=_ return
+outer-names-length [] at ps = refl
+outer-names-length (n ∷ ns) at ps =
+    let first = placeOuterName bytesOracle n at ps in
+    ap suc (outer-names-length ns (at + length (first .cells)) (first .pools-after))
+
+pub record BindingAt (cells : List (Cell Bytes Bytes)) (wide : Bool) (b : ResourceBinding Bytes) (o : ℕ) : Type 0 where
+  pub fine : ReadableBinding wide b
+  pub name : NameAt cells o (b .name)
+
+abbrev pub BindingRead : List (Cell Bytes Bytes) → ResourceBinding Bytes → ℕ → ResourceBinding Text → Type 0
+BindingRead cells b o p = mapBinding (textIn cells) p ≡ mapBinding nameIn b
+
+-- The bindings' records stand at an offset, and their names where the records say.
+pub record BindingsAt (cells : List (Cell Bytes Bytes)) (wide : Bool) (bs : List (ResourceBinding Bytes)) (at : ℕ) (os : List ℕ) : Type 0 where
+  pub all : Zip (BindingAt cells wide) bs os
+  pub stand : WordsAt cells at (rows (bindingWords wide) bs os)
+
+bindings-named : (cells : List (Cell Bytes Bytes)) (wide : Bool) (bs : List (ResourceBinding Bytes)) (os : List ℕ) → All (ReadableBinding wide) bs
+    → Zip (λ n o. NameAt cells o n) (map (λ b. b .name) bs) os → Zip (BindingAt cells wide) bs os
+bindings-named cells wide [] [] fine named = tt
+bindings-named cells wide [] (o ∷ os) fine named = absurd named
+bindings-named cells wide (b ∷ bs) [] fine named = absurd named
+bindings-named cells wide (b ∷ bs) (o ∷ os) fine named = (record { fine = fine .0; name = named .0 }, bindings-named cells wide bs os (fine .1) (named .1))
+
+module _ (cells : List (Cell Bytes Bytes)) (short : length cells ≤ 65536) (wide : Bool) where
+  pub binding-read : (b : ResourceBinding Bytes) (o at : ℕ) → BindingAt cells wide b o → WordsAt cells at (bindingWords wide b o)
+      → (p : ResourceBinding Text) × Takes (readBinding (bytesOf cells) wide at) (room 1 0 0 0) p × BindingRead cells b o p
+  unfolding readBinding mapBinding bindingWords bindingFrom Words bindingNumbers
+  binding-read b o at there h =
+      let name : Text = inChunk o (length (b .name)) in
+      let p : ResourceBinding Text = record {
+        name = name;
+        input-type = b .input-type;
+        return-type = b .return-type;
+        dimension = b .dimension;
+        num-samples = b .num-samples;
+        bind-point = b .bind-point;
+        bind-count = b .bind-count;
+        flags = b .flags;
+        space = b .space;
+        id = b .id;
+      } in (
+        p,
+        then-free _ _ binding-takes
+            (free-then _ _ (check-takes _ 7 (inside-bytes cells at (bindingStride wide) (omega (arith, words-fit cells at (bindingWords wide b o) h, length-bindingWords wide b o))))
+            (free-then _ _ (check-takes _ 8 (ap (λ (w : ℕ). leb w 13) (word 1 (omega arith)) ∙ there .fine .input-type))
+            (free-then _ _ (check-takes _ 9 (ap (λ (w : ℕ). leb w 11) (word 3 (omega arith)) ∙ there .fine .dimension))
+            (free-then _ _ (check-takes _ 10 (ap (λ (w : ℕ). leb w 0x1f) (word 7 (omega arith)) ∙ there .fine .flags))
+            (free-then _ _ (text-takes 11 _ o (length (b .name)) (ap (cstringAt (bytesOf cells)) (ap (wordAt (bytesOf cells)) (sym (add-zero at)) ∙ word 0 (omega arith)) ∙ there .name .found))
+            (returns _ p (λ i. record {
+              name = name;
+              input-type = word 1 (omega arith) i;
+              return-type = word 2 (omega arith) i;
+              dimension = word 3 (omega arith) i;
+              num-samples = word 4 (omega arith) i;
+              bind-point = word 5 (omega arith) i;
+              bind-count = word 6 (omega arith) i;
+              flags = word 7 (omega arith) i;
+              space = last 0 32 (omega arith) refl i;
+              id = last 1 36 (omega arith) refl i;
+            }))))))),
+        λ i. record {
+          name = there .name .is i;
+          input-type = b .input-type;
+          return-type = b .return-type;
+          dimension = b .dimension;
+          num-samples = b .num-samples;
+          bind-point = b .bind-point;
+          bind-count = b .bind-count;
+          flags = b .flags;
+          space = b .space;
+          id = b .id;
+        },
+      )
+    where
+      first : List ℕ
+      first = o ∷ b .input-type ∷ b .return-type ∷ b .dimension ∷ b .num-samples ∷ b .bind-point ∷ b .bind-count ∷ b .flags ∷ []
+
+      longer : List ℕ
+      longer = b .space ∷ b .id ∷ []
+
+      small : Words (bindingNumbers b)
+      small = there .fine .words
+
+      word : (j : ℕ) → j < 8
+          → wordAt (bytesOf cells) (at + 4 * j) ≡ getD (o ∷ b .input-type ∷ b .return-type ∷ b .dimension ∷ b .num-samples ∷ b .bind-point ∷ b .bind-count ∷ b .flags ∷ []) j 0
+      word j lt =
+          row-word cells at first j
+          (omega (arith, there .name .below-end), (small .0, (small .1 .0, (small .1 .1 .0, (small .1 .1 .1 .0, (small .1 .1 .1 .1 .0, (small .1 .1 .1 .1 .1 .0, (small .1 .1 .1 .1 .1 .1 .0, tt))))))))
+          lt
+          (words-split cells at first (wordsIf wide longer) h .0)
+
+      last : (j m : ℕ) → j < 2 → 32 + 4 * j ≡ m → wordIf wide (bytesOf cells) (at + m) ≡ getD (b .space ∷ b .id ∷ []) j 0
+      last j m lt e = longer-word cells wide at first longer j m (there .fine .longer) lt e h
+
+  pub bindings-leave : (sm5 : Bool) (bs : List (ResourceBinding Bytes)) → All (ReadableBinding wide) bs → (at : ℕ)
+      → Leaves cells sm5 at (ahead (length bs * bindingSize wide) (rows (bindingWords wide) bs) (placeOuterNames bytesOracle (map (λ b. b .name) bs))) (λ os at′. BindingsAt cells wide bs at os)
+  bindings-leave sm5 bs fine at =
+      ahead-leaves at (length bs * bindingSize wide) (rows (bindingWords wide) bs) (placeOuterNames bytesOracle (map (λ b. b .name) bs))
+      (λ ps. length-rows (bindingWords wide) (bindingSize wide) (count-bindingWords wide) bs _ (sym (length-map bs (λ b. b .name)) ∙ outer-names-length (map (λ b. b .name) bs) _ ps))
+      (placeOuterNames-leaves cells sm5 (map (λ b. b .name) bs) (all-to-map (λ n. nameReadable n ≡ true) (λ b. b .name) bs (all-weaken (λ b f. f .name) bs fine)) _)
+      (λ os at₁ named h. record { all = bindings-named cells wide bs os fine named; stand = h })
