@@ -1,3 +1,5 @@
 pub mod Ran
 pub mod Scratch
 pub mod Bytes
+pub mod Pooling
+pub mod InScratch

@@ -1,8 +1,8 @@
 -- Where bindings are placed, each of their records reads as the binding: by the law on names and by the words of the record.
-use mathlib.Core.Path.{_≡_, refl, ap, sym, _∙_, subst}
-use mathlib.Core.List.{List, [], _∷_, _++_, map}
+use mathlib.Core.Path.{_≡_, refl, ap, sym, _∙_}
+use mathlib.Core.List.{List, [], _∷_, map}
 use mathlib.Core.Bool.{Bool, true, false}
-use Prim.Native.Nat.{ℕ, zero, suc, _+_, _*_, _/_, _<_, _≤_}
+use Prim.Native.Nat.{ℕ, suc, _+_, _*_, _<_, _≤_}
 use native.Mathlib.Omega.{arith}
 use native.Mathlib.Nat.{add-zero}
 use lib.Dec.{leb}
@@ -16,7 +16,7 @@ use Rattle.reflection.specs.Contents.{Bytes}
 use Rattle.reading.specs.Step.{room}
 use Rattle.reading.specs.Read.{bindingStride, wordIf, bindingFrom, readBinding}
 use Rattle.readable.specs.Readable.{nameReadable}
-use Rattle.writing.specs.Step.{Cell, Pools, Step, _>>=_, return, ahead}
+use Rattle.writing.specs.Step.{Cell, Pools, _>>=_, return, ahead}
 use Rattle.writing.specs.Records.{bindingWords, bindingSize, wordsIf, rows}
 use Rattle.writing.specs.Layout.{placeOuterName, placeOuterNames}
 use Rattle.writing.specs.Canonical.{bytesOracle}

@@ -1,8 +1,8 @@
 -- Where buffers are placed, each of their records reads as the buffer, with its variables: by the laws on variables and names, and by the words of the record.
 use mathlib.Core.Path.{_≡_, refl, ap, sym, _∙_, subst}
 use mathlib.Core.List.{List, [], _∷_, _++_, map, map-append}
-use mathlib.Core.Bool.{Bool, true, false}
-use Prim.Native.Nat.{ℕ, zero, suc, _+_, _*_, _<_, _≤_}
+use mathlib.Core.Bool.{Bool, true}
+use Prim.Native.Nat.{ℕ, suc, _+_, _*_, _<_, _≤_}
 use native.Mathlib.Omega.{arith}
 use native.Mathlib.Nat.{add-zero}
 use lib.Dec.{eqb}
@@ -17,7 +17,7 @@ use Rattle.reflection.specs.Contents.{Bytes}
 use Rattle.reading.specs.Step.{Room, room}
 use Rattle.reading.specs.Read.{variableStride, readMany, readVariable, bufferFrom, readBuffer}
 use Rattle.readable.specs.Readable.{nameReadable}
-use Rattle.writing.specs.Step.{Cell, Pools, Step, _>>=_, return, pad, ahead, wordCells}
+use Rattle.writing.specs.Step.{Cell, Pools, _>>=_, return, ahead, wordCells}
 use Rattle.writing.specs.Records.{VariableOffsets, variableWords, variableSize, Section, bufferWords, rows}
 use Rattle.writing.specs.Layout.{zip, placeVariables, placeSection, placeSections, placeOuterNames, placeBufferParts, placeBuffers}
 use Rattle.writing.specs.Canonical.{bytesOracle}

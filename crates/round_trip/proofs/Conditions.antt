@@ -2,7 +2,7 @@
 -- the tests and the lists of names and numbers apart.
 use mathlib.Core.Path.{_≡_, refl, ap, sym, _∙_, subst}
 use mathlib.Core.List.{List, [], _∷_, _++_, map, append-assoc}
-use mathlib.Core.Bool.{Bool, true, false, _&&_, _||_}
+use mathlib.Core.Bool.{Bool, true, false, _&&_}
 use Prim.Native.Nat.{ℕ, zero, suc, _+_, _<_, _≤_}
 use native.Mathlib.Omega.{arith}
 use borrow.Author.Tests.{leb-true, eqb-true}
@@ -15,7 +15,7 @@ use Rattle.reflection.specs.Tables.{allVariables}
 use Rattle.reflection.specs.Contents.{Bytes, typeNames, memberNames, variableNames, outerNames, innerNames}
 use Rattle.readable.specs.Readable.{every, nameReadable, defaultReadable, zeroUnless, versionReadable, bindingReadable, numbersReadable, typeReadable, membersReadable, variableReadable, roomKept, readableContents}
 use Rattle.round_trip.specs.RoundTrip.{typeNumbers, memberNumbers, variableNumbers, bindingNumbers, bufferNumbers, Words, AllWords, BuffersWords, NumbersAreWords}
-use Rattle.round_trip.proofs.Lists.{All, all-append, all-of-map, every-all}
+use Rattle.round_trip.proofs.Lists.{All, all-append, every-all}
 use Rattle.round_trip.proofs.Holds.{Longer}
 
 pub record ReadableNumbers (sm5 : Bool) (k : TypeNumbers) : Type 0 where

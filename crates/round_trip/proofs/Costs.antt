@@ -1,8 +1,8 @@
 -- The room that reading takes is as many records as the reflection has, and that is within the full room where the room is kept: by sums over the lists.
 use mathlib.Core.Path.{_≡_, refl, ap, sym, _∙_, subst}
 use mathlib.Core.List.{List, [], _∷_, _++_}
-use mathlib.Core.Bool.{Bool, true, false, _&&_}
-use Prim.Native.Nat.{ℕ, zero, suc, _+_, _≤_}
+use mathlib.Core.Bool.{true, _&&_}
+use Prim.Native.Nat.{ℕ, _+_}
 use native.Mathlib.Omega.{arith}
 use borrow.Author.Tests.{leb-true}
 use lib.Dec.{leb}
@@ -14,7 +14,7 @@ use Rattle.reflection.specs.Tables.{allVariables}
 use Rattle.reflection.specs.Contents.{Bytes}
 use Rattle.reading.specs.Step.{Room, room, fullRoom}
 use Rattle.readable.specs.Readable.{nodeCount, roomKept}
-use Rattle.round_trip.proofs.Rooms.{plus, noRoom, Enough, same-room}
+use Rattle.round_trip.proofs.Rooms.{plus, Enough, same-room}
 use Rattle.round_trip.proofs.Steps.{typeSize, membersSize}
 use Rattle.round_trip.proofs.Tables.{total}
 use Rattle.round_trip.proofs.Variables.{variableCost}
@@ -70,9 +70,9 @@ room-enough r e =
     let (buffers, e₂) = and-true (leb (length (r .constant-buffers)) 64) (leb (length vs) 2048 && leb (nodeCount vs) 4096) e₁ in
     let (variables, types) = and-true (leb (length vs) 2048) (leb (nodeCount vs) 4096) e₂ in
     let cost : readCost r ≡ room (length (r .bindings)) (length (r .constant-buffers)) (length vs) (nodeCount vs) =
-        (λ i. plus (total-bindings (r .bindings) i) (total-buffers (r .constant-buffers) i))
-        ∙ same-room (plus (room (length (r .bindings)) 0 0 0) (room 0 (length (r .constant-buffers)) (length vs) (nodeCount vs))) (room (length (r .bindings)) (length (r .constant-buffers)) (length vs) (nodeCount vs))
-        (omega arith) (omega arith) (omega arith) (omega arith) in
+    (λ i. plus (total-bindings (r .bindings) i) (total-buffers (r .constant-buffers) i))
+    ∙ same-room (plus (room (length (r .bindings)) 0 0 0) (room 0 (length (r .constant-buffers)) (length vs) (nodeCount vs))) (room (length (r .bindings)) (length (r .constant-buffers)) (length vs) (nodeCount vs))
+    (omega arith) (omega arith) (omega arith) (omega arith) in
     subst (λ c. Enough c fullRoom) (sym cost) (record {
       bindings = leb-true (length (r .bindings)) 1024 bindings;
       buffers = leb-true (length (r .constant-buffers)) 64 buffers;

@@ -1,8 +1,8 @@
 -- The header's words read as what was written there, and all that it points to is there: the bindings, the buffers and the creator.
-use mathlib.Core.Path.{_≡_, refl, ap, sym, _∙_, subst}
-use mathlib.Core.List.{List, [], _∷_, _++_, map}
+use mathlib.Core.Path.{_≡_, refl, ap, _∙_}
+use mathlib.Core.List.{List, [], _∷_}
 use mathlib.Core.Bool.{Bool, true, false, _&&_, _||_}
-use Prim.Native.Nat.{ℕ, zero, suc, _+_, _*_, _<_, _≤_}
+use Prim.Native.Nat.{ℕ, _+_, _*_, _<_, _≤_}
 use native.Mathlib.Omega.{arith}
 use borrow.Author.Tests.{leb-true, eqb-true}
 use lib.Dec.{eqb, leb}
@@ -13,8 +13,8 @@ use Rattle.reflection.specs.Reflection.{Rd11, noRd11, rd11, ResourceDef, majorO
 use Rattle.reflection.specs.Contents.{Bytes}
 use Rattle.reading.specs.Read.{rd11Allowed, readRd11}
 use Rattle.readable.specs.Readable.{versionReadable, roomKept}
-use Rattle.writing.specs.Step.{Cell, Step, _>>=_, return, pad}
-use Rattle.writing.specs.Records.{rd11Words, BodyOffsets, headerWords, headerSize, rows}
+use Rattle.writing.specs.Step.{Cell}
+use Rattle.writing.specs.Records.{rd11Words, BodyOffsets, headerWords, headerSize}
 use Rattle.writing.specs.Layout.{placeBody}
 use Rattle.writing.specs.Canonical.{bytesOracle, fill}
 use Rattle.round_trip.specs.RoundTrip.{Words}

@@ -5,7 +5,7 @@ use mathlib.Core.List.{List, [], _∷_, _++_, map, append-assoc, map-append}
 use mathlib.Core.Bool.{Bool, true, false}
 use Prim.Native.Nat.{ℕ, zero, suc, _+_, _*_, _<_, _≤_}
 use native.Mathlib.Omega.{arith}
-use native.Mathlib.Nat.{add-zero, add-assoc}
+use native.Mathlib.Nat.{add-zero}
 use lib.ListN.{length, take, drop, getD, length-append, length-map}
 use lib.Seq.{drop-drop, drop-append-seam, take-append-seam}
 use Rattle.words.specs.Words.{wordAt, wordBytes}
@@ -15,7 +15,7 @@ use Rattle.words.proofs.Parts.{fits-inside}
 use Rattle.words.proofs.Records.{word-of-record}
 use Rattle.reflection.specs.Contents.{Bytes}
 use Rattle.reading.specs.Read.{wordIf}
-use Rattle.writing.specs.Step.{Cell, byte, nameByte, defaultByte, wordCells}
+use Rattle.writing.specs.Step.{Cell, byte, wordCells}
 use Rattle.writing.specs.Records.{wordsIf}
 use Rattle.writing.specs.Canonical.{fill}
 use Rattle.round_trip.specs.RoundTrip.{Words}
@@ -79,6 +79,16 @@ abbrev pub Longer : Bool → ℕ → Type 0
 Longer false w = w ≡ 0
 Longer true w = w < 4294967296
 
+longer-words : (ws : List ℕ) → All (Longer true) ws → Words ws
+unfolding Words
+longer-words [] h = tt
+longer-words (w ∷ ws) h = (h .0, longer-words ws (h .1))
+
+zero-word : (ws : List ℕ) (j : ℕ) → All (Longer false) ws → getD ws j 0 ≡ 0
+zero-word [] j h = refl
+zero-word (w ∷ ws) zero h = h .0
+zero-word (w ∷ ws) (suc j) h = zero-word ws j (h .1)
+
 module _ (cells : List (Cell Bytes Bytes)) where
   abbrev out : Bytes
   out = bytesOf cells
@@ -112,16 +122,6 @@ module _ (cells : List (Cell Bytes Bytes)) where
         holds-left (wordCells xs) (wordCells ys) both,
         subst (λ n. Holds cells (at + n) (wordCells ys)) (length-wordCells xs) (holds-right (wordCells xs) (wordCells ys) both),
       )
-
-  longer-words : (ws : List ℕ) → All (Longer true) ws → Words ws
-  unfolding Words
-  longer-words [] h = tt
-  longer-words (w ∷ ws) h = (h .0, longer-words ws (h .1))
-
-  zero-word : (ws : List ℕ) (j : ℕ) → All (Longer false) ws → getD ws j 0 ≡ 0
-  zero-word [] j h = refl
-  zero-word (w ∷ ws) zero h = h .0
-  zero-word (w ∷ ws) (suc j) h = zero-word ws j (h .1)
 
   -- Word j of the words that only the longer kind of a record has, k bytes from the record's start.
   pub longer-word : (longer : Bool) (at : ℕ) (xs ys : List ℕ) (j k : ℕ) → All (Longer longer) ys → j < length ys → 4 * length xs + 4 * j ≡ k

@@ -15,3 +15,4 @@ pub mod Maps
 pub mod Costs
 pub mod Header
 pub mod RoundTrip
+pub mod Instance

@@ -1,32 +1,22 @@
--- General facts about lists, each by induction on the list: parts of a map, what holds of every element, what a test over all elements says, and two or
+-- General facts about lists, each by induction on the list: the end of a map, what holds of every element, what a test over all elements says, and two or
 -- three lists side by side.
-use mathlib.Core.Path.{_≡_, refl, ap, sym, _∙_, subst}
+use mathlib.Core.Path.{_≡_, refl, ap, _∙_, subst}
 use mathlib.Core.List.{List, [], _∷_, _++_, map}
-use mathlib.Core.Bool.{Bool, true, false, _&&_}
-use mathlib.Core.Option.{Option, none, some, Option·none-ne-some, Option·some-injective}
+use mathlib.Core.Bool.{Bool, true, false}
+use mathlib.Core.Option.{some, Option·none-ne-some, Option·some-injective}
 use Prim.Native.Nat.{ℕ, zero, suc, _+_, _*_}
 use native.Mathlib.Omega.{arith}
-use lib.ListN.{length, take, drop, length-append}
+use lib.ListN.{length, drop, length-append}
 use Rattle.text.proofs.Bools.{and-true}
 use Rattle.readable.specs.Readable.{every}
 use Rattle.writing.specs.Step.{find, hit}
 use Rattle.writing.specs.Records.{rows}
 use Rattle.writing.specs.Layout.{zip}
 
--- Parts of a map.
 pub drop-map : {A B : Type 0} (f : A → B) (n : ℕ) (l : List A) → drop n (map f l) ≡ map f (drop n l)
 drop-map f zero l = refl
 drop-map f (suc n) [] = refl
 drop-map f (suc n) (x ∷ xs) = drop-map f n xs
-
-pub take-map : {A B : Type 0} (f : A → B) (n : ℕ) (l : List A) → take n (map f l) ≡ map f (take n l)
-take-map f zero l = refl
-take-map f (suc n) [] = refl
-take-map f (suc n) (x ∷ xs) = let q = take-map f n xs in λ i. f x ∷ q i
-
-pub empty-list : {A : Type 0} (l : List A) → length l ≡ 0 → l ≡ []
-empty-list [] e = refl
-empty-list (x ∷ xs) e = absurd (omega arith)
 
 -- What holds of every element.
 abbrev pub All : {A : Type 0} → (A → Type 0) → List A → Type 0
@@ -40,10 +30,6 @@ all-weaken f (x ∷ xs) h = (f x (h .0), all-weaken f xs (h .1))
 pub all-append : {A : Type 0} (P : A → Type 0) (xs ys : List A) → All P (xs ++ ys) → All P xs × All P ys
 all-append P [] ys h = (tt, h)
 all-append P (x ∷ xs) ys h = let (a, b) = all-append P xs ys (h .1) in ((h .0, a), b)
-
-pub all-of-map : {A B : Type 0} (P : B → Type 0) (f : A → B) (l : List A) → All P (map f l) → All (λ a. P (f a)) l
-all-of-map P f [] h = tt
-all-of-map P f (x ∷ xs) h = (h .0, all-of-map P f xs (h .1))
 
 pub all-to-map : {A B : Type 0} (P : B → Type 0) (f : A → B) (l : List A) → All (λ a. P (f a)) l → All P (map f l)
 all-to-map P f [] h = tt

@@ -1,5 +1,5 @@
 -- Another kind of name and default in a reflection, twice, is once: and the same kind leaves it as it is. By induction on types and lists.
-use mathlib.Core.Path.{_≡_, refl, ap, sym, _∙_}
+use mathlib.Core.Path.{_≡_, refl}
 use mathlib.Core.List.{List, [], _∷_, map}
 use Rattle.reflection.specs.Reflection.{TypeDesc, typeDesc, Members, noMember, member, CBufferVariable, CBufferDef, ResourceBinding, ResourceDef, mapType, mapMembers, mapBinding, mapVariable, mapBuffer, mapDef}
 

@@ -1,21 +1,20 @@
 -- Where a name or a default is placed, it lies in the final cells: one that a pool has was placed before with equal bytes, and the cells of any other stand
 -- at the cursor.
-use mathlib.Core.Path.{_≡_, refl, ap, sym, _∙_, subst}
-use mathlib.Core.List.{List, [], _∷_, _++_, map}
-use mathlib.Core.Bool.{Bool, true, false}
-use mathlib.Core.Option.{Option, none, some}
-use Prim.Native.Nat.{ℕ, zero, suc, _+_, _<_, _≤_}
+use mathlib.Core.Path.{_≡_, sym, subst}
+use mathlib.Core.List.{List, [], _∷_}
+use mathlib.Core.Bool.{Bool, true}
+use mathlib.Core.Option.{some}
+use Prim.Native.Nat.{ℕ, _<_}
 use native.Mathlib.Omega.{arith}
 use lib.ListN.{length}
 use Rattle.text.specs.Same.{sameBytes}
 use Rattle.text.proofs.SameBytes.{same-bytes-equal}
 use Rattle.reflection.specs.Contents.{Bytes}
 use Rattle.readable.specs.Readable.{nameReadable}
-use Rattle.writing.specs.Step.{Cell, defaultByte, Pools, Step, _>>=_, append, remember, pad, find, once, unlessEmpty, addOuterName, addInnerName, addDefault, cellsOf}
+use Rattle.writing.specs.Step.{Cell, defaultByte, Pools, find, unlessEmpty, addOuterName, addInnerName, addDefault, cellsOf}
 use Rattle.writing.specs.Layout.{nameCells, placeOuterName, placeInnerName, placeDefault, placeOuterNames}
 use Rattle.writing.specs.Canonical.{bytesOracle}
 use Rattle.round_trip.proofs.Lists.{All, found-entry, Zip}
-use Rattle.round_trip.proofs.Holds.{Holds}
 use Rattle.round_trip.proofs.Texts.{NameAt, name-at, NameOrEmpty, empty-name, some-name, DefaultAt, empty-default, default-at}
 use Rattle.round_trip.proofs.Steps.{PoolsHold, Leaves, bind-leaves, return-leaves, remember-leaves, Appended, append-leaves, pad-leaves, once-leaves, unlessEmpty-leaves, after-start, weaken-leaves}
 

@@ -2,15 +2,14 @@
 -- definition of its step and a sum.
 use mathlib.Core.Path.{_≡_, refl, ap, sym, _∙_, subst}
 use mathlib.Core.List.{List, [], _∷_}
-use mathlib.Core.Bool.{Bool, true, false, _||_, not}
+use mathlib.Core.Bool.{Bool, true, false}
 use Prim.Native.Nat.{ℕ, zero, suc, _+_, _-_, _<_, _≤_}
 use native.Mathlib.Omega.{arith}
 use borrow.Author.Tests.{le-leb, ne-eqb}
-use lib.Dec.{leb, eqb}
+use lib.Dec.{leb}
 use Rattle.text.specs.declared.Found.{Found}
-use Rattle.text.specs.declared.Found.the-variants.{At, Bad}
-use Rattle.reflection.specs.declared.Text.{Text}
-use Rattle.reflection.specs.Outcome.{Outcome, ok, refused}
+use Rattle.text.specs.declared.Found.the-variants.{At}
+use Rattle.reflection.specs.Outcome.{Outcome, ok}
 use Rattle.reflection.specs.Texts.{inChunk}
 use Rattle.reading.specs.Step.{Room, room, Step, andThen, _>>=_, return, check, textOr, oneLess, takeBinding, takeBuffer, takeVariable, takeType}
 use Rattle.reading.specs.Read.{onPath}
@@ -34,6 +33,12 @@ pub record Enough (c s : Room) : Type 0 where
 -- With room for c, the step gives a and takes c.
 pub record Takes {A : Type 0} (m : Step A) (c : Room) (a : A) : Type 0 where
   pub gives : (s : Room) → Enough c s → m s ≡ ok (a, minus s c)
+
+-- With room for c, the step gives what stands for v by `view`, and takes c.
+pub record Reads {P Q : Type 0} (m : Step P) (c : Room) (view : P → Q) (v : Q) : Type 0 where
+  pub found : P
+  pub takes : Takes m c found
+  pub is : view found ≡ v
 
 pub same-room : (c d : Room) → c .bindings ≡ d .bindings → c .buffers ≡ d .buffers → c .variables ≡ d .variables → c .types ≡ d .types → c ≡ d
 same-room c d p q r s = λ i. record { bindings = p i; buffers = q i; variables = r i; types = s i }
@@ -78,7 +83,6 @@ text-takes n x place k e = subst (λ y. Takes (textOr n y) noRoom (inChunk place
 one-taken : (n : ℕ) (left : ℕ → Room) → 1 ≤ n → oneLess n left ≡ ok (tt, left (n - 1))
 one-taken zero left h = absurd (omega arith)
 one-taken (suc n) left h = ap (λ (k : ℕ). ok (tt, left k)) (let e : n ≡ suc n - 1 = omega arith in e)
-
 
 pub binding-takes : Takes takeBinding (room 1 0 0 0) tt
 unfolding takeBinding

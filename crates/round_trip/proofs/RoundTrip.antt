@@ -1,10 +1,10 @@
 -- THE ROUND TRIP: the canonical form of a readable reflection reads back with every number, name and default, each text where the layout put its cells, each
 -- default where the layout's result says, and what was read is written as the same bytes. The cells of the layout are those of its steps, so each step has
 -- left there what the reader reads (Steps, Names, Types, Variables, Bindings, Buffers, Header); the reader then goes through the same records.
-use mathlib.Core.Path.{_≡_, refl, ap, sym, _∙_, subst}
-use mathlib.Core.List.{List, [], _∷_, _++_, map, append-nil}
-use mathlib.Core.Bool.{Bool, true, false, _||_}
-use Prim.Native.Nat.{ℕ, zero, suc, _+_, _*_, _<_, _≤_}
+use mathlib.Core.Path.{_≡_, ap, sym, _∙_, subst}
+use mathlib.Core.List.{List, [], _++_, append-nil}
+use mathlib.Core.Bool.{Bool, true, _||_}
+use Prim.Native.Nat.{ℕ, _+_, _*_, _<_, _≤_}
 use native.Mathlib.Omega.{arith}
 use native.Mathlib.Nat.{zero-add}
 use lib.Dec.{eqb}
@@ -12,8 +12,7 @@ use lib.ListN.{length, getD, length-map}
 use Rattle.words.specs.Words.{wordAt}
 use Rattle.text.specs.Strings.{cstringAt}
 use Rattle.reflection.specs.declared.Text.{Text}
-use Rattle.reflection.specs.Outcome.{ok}
-use Rattle.reflection.specs.Reflection.{ResourceBinding, CBufferDef, ResourceDef, mapBinding, mapBuffer, mapDef, majorOf, isSm5, isWide}
+use Rattle.reflection.specs.Reflection.{ResourceDef, mapBinding, mapBuffer, mapDef, majorOf, isSm5, isWide}
 use Rattle.reflection.specs.Texts.{inChunk}
 use Rattle.reflection.specs.Contents.{Bytes, contents, defaultsOf}
 use Rattle.reading.specs.Step.{fullRoom}

@@ -2,23 +2,22 @@
 -- cursor was, then what the pools say after the step is so, and so is `Post` of the step's result and of the cursor after it. Since every rule speaks of
 -- the final cells, nothing has to be carried over an append; each rule is its step's definition.
 use mathlib.Core.Path.{_≡_, refl, ap, sym, _∙_, subst}
-use mathlib.Core.List.{List, [], _∷_, _++_, map}
+use mathlib.Core.List.{List, [], _++_}
 use mathlib.Core.Bool.{Bool, true, false}
 use mathlib.Core.Option.{Option, none, some}
 use Prim.Native.Nat.{ℕ, zero, suc, _+_, _*_, _<_, _≤_}
 use native.Mathlib.Omega.{arith}
 use native.Mathlib.Nat.{add-zero, le-add-right}
 use lib.ListN.{length, length-append, length-replicate}
-use Rattle.reflection.specs.declared.Text.{Text}
 use Rattle.reflection.specs.Reflection.{TypeDesc, typeDesc, Members, noMember, member, mapType}
 use Rattle.reflection.specs.Nodes.{Fits}
 use Rattle.reflection.specs.Contents.{Bytes}
 use Rattle.reading.specs.Step.{room}
 use Rattle.reading.specs.Read.{readType}
-use Rattle.writing.specs.Step.{Cell, byte, Pools, pools, Placed, Step, _>>=_, return, append, remember, pad, paddingAt, wordCells, ahead, found, once, rememberIf, unlessEmpty, goDown, comeUp, below}
+use Rattle.writing.specs.Step.{Cell, byte, Pools, Placed, Step, _>>=_, return, append, remember, pad, paddingAt, wordCells, ahead, found, once, rememberIf, unlessEmpty, goDown, below}
 use Rattle.round_trip.proofs.Lists.{All, all-weaken}
 use Rattle.round_trip.proofs.Holds.{Holds, holds-left, holds-right, bytesOf, length-wordCells, WordsAt}
-use Rattle.round_trip.proofs.Rooms.{Takes}
+use Rattle.round_trip.proofs.Rooms.{Reads}
 use Rattle.round_trip.proofs.Texts.{textIn, nameIn, NameAt, DefaultAt}
 
 -- How many nodes a type has.
@@ -33,7 +32,7 @@ unfoldable mutual
 -- The descriptor at o reads as the type t, whatever the path to it, if all of the path lies above o: so a path never meets itself.
 pub record TypeAt (cells : List (Cell Bytes Bytes)) (sm5 : Bool) (o : ℕ) (t : TypeDesc Bytes) : Type 0 where
   pub reads : (levels : ℕ) (path : List ℕ) → Fits t levels → All (λ q. o < q) path
-      → (p : TypeDesc Text) × Takes (readType (bytesOf cells) sm5 levels path o) (room 0 0 0 (typeSize t)) p × (mapType (textIn cells) p ≡ mapType nameIn t)
+      → Reads (readType (bytesOf cells) sm5 levels path o) (room 0 0 0 (typeSize t)) (mapType (textIn cells)) (mapType nameIn t)
   pub below-end : o < length cells
 
 -- What the pools say is so in the final cells, and every type lies below the cursor.

@@ -2,16 +2,14 @@
 -- default because it lies in the chunk. An offset of 0 means empty in both.
 use mathlib.Core.Path.{_≡_, refl, ap, sym, _∙_, subst}
 use mathlib.Core.List.{List, [], _∷_, _++_, map, append-assoc, map-append}
-use mathlib.Core.Bool.{Bool, true, false, _&&_, _||_}
+use mathlib.Core.Bool.{true, _||_}
 use Prim.Native.Nat.{ℕ, zero, suc, _+_, _<_, _≤_}
 use native.Mathlib.Omega.{arith}
 use borrow.Author.Tests.{eqb-true, ne-eqb}
 use lib.Dec.{eqb}
-use lib.ListN.{length, take, drop, getD, length-append, length-map}
-use Rattle.words.specs.Parts.{inside}
+use lib.ListN.{length, take, drop, getD, length-append}
 use Rattle.words.proofs.Parts.{fits-inside, part-inside}
-use Rattle.text.specs.declared.Found.{Found}
-use Rattle.text.specs.declared.Found.the-variants.{At, Bad}
+use Rattle.text.specs.declared.Found.the-variants.{At}
 use Rattle.text.specs.Utf8.{wellFormed}
 use Rattle.text.specs.Strings.{cstringAt, withoutNul}
 use Rattle.text.proofs.Bools.{and-true}
@@ -26,7 +24,6 @@ use Rattle.writing.specs.Step.{Cell, byte, nameByte, defaultByte, cellsOf}
 use Rattle.writing.specs.Layout.{nameCells}
 use Rattle.writing.specs.Canonical.{bytesOracle, fill}
 use Rattle.round_trip.specs.RoundTrip.{cellsIn, cellsOfName, cellsOfDefault}
-use Rattle.round_trip.proofs.Lists.{empty-list}
 use Rattle.round_trip.proofs.Holds.{Holds, holds-left, holds-take, holds-map, bytesOf}
 
 -- A text of the written chunk: its bytes and the layout's cells there. A name and a default, likewise.

@@ -1,18 +1,15 @@
 -- A type descriptor whose words, name and member records stand in the final cells reads as the type. Every descriptor below it lies at a smaller offset, so
 -- no path meets itself.
 use mathlib.Core.Path.{_≡_, refl, ap, sym, _∙_, subst}
-use mathlib.Core.List.{List, [], _∷_, _++_, map}
+use mathlib.Core.List.{List, [], _∷_, _++_}
 use mathlib.Core.Bool.{Bool, true, false, not}
 use Prim.Native.Nat.{ℕ, zero, suc, _+_, _*_, _<_, _≤_, _/_, _%_}
 use native.Mathlib.Omega.{arith}
 use native.Mathlib.Nat.{add-zero, add-assoc}
 use lib.ListN.{length, getD}
 use Rattle.words.specs.Words.{wordAt, lowAt, highAt}
-use Rattle.words.specs.Parts.{inside}
-use Rattle.text.specs.declared.Found.{Found}
-use Rattle.text.specs.declared.Found.the-variants.{At, Bad}
+use Rattle.text.specs.declared.Found.the-variants.{At}
 use Rattle.text.specs.Strings.{cstringAt}
-use Rattle.reflection.specs.declared.Text.{Text}
 use Rattle.reflection.specs.Reflection.{TypeNumbers, TypeDesc, typeDesc, Members, noMember, member, memberCount, mapType, mapMembers}
 use Rattle.reflection.specs.Nodes.{Fits, FitsAll}
 use Rattle.reflection.specs.Texts.{inChunk}
@@ -24,7 +21,7 @@ use Rattle.writing.specs.Records.{halves, typeWords, wordsIf}
 use Rattle.round_trip.specs.RoundTrip.{Words}
 use Rattle.round_trip.proofs.Lists.{All, all-weaken}
 use Rattle.round_trip.proofs.Holds.{bytesOf, WordsAt, Longer, inside-bytes, words-first, row-word, words-fit, words-split, longer-word}
-use Rattle.round_trip.proofs.Rooms.{Takes, then-takes, free-then, then-free, return-takes, returns, check-takes, text-takes, type-takes, below-not-on-path}
+use Rattle.round_trip.proofs.Rooms.{Takes, Reads, then-takes, free-then, then-free, return-takes, returns, check-takes, text-takes, type-takes, below-not-on-path}
 use Rattle.round_trip.proofs.Texts.{textIn, nameIn, NameAt, NameOrEmpty}
 use Rattle.round_trip.proofs.Steps.{typeSize, membersSize, TypeAt}
 use Rattle.round_trip.proofs.Conditions.{ReadableNumbers, NamedIf, ReadableType, ReadableMembers}
@@ -136,31 +133,52 @@ no-members cells sm5 noMember (x ∷ ws) o e h = absurd h
 no-members cells sm5 (member n f t ms) ws o e h = absurd (omega (arith, e))
 
 module _ (cells : List (Cell Bytes Bytes)) (sm5 : Bool) (short : length cells ≤ 65536) where
+  -- One member record, and what is read for its type and for the other members.
+  member-read : (levels : ℕ) (path : List ℕ) (n : Bytes) (f : ℕ) (t : TypeDesc Bytes) (ms : Members Bytes) (name type at : ℕ) (ws : List ℕ) → NameAt cells name n → type < 4294967296 → f < 4294967296
+      → WordsAt cells at (name ∷ type ∷ f ∷ ws) → Reads (readType (bytesOf cells) sm5 levels path type) (room 0 0 0 (typeSize t)) (mapType (textIn cells)) (mapType nameIn t)
+      → (WordsAt cells (at + 12) ws
+      → Reads (readMembers (readType (bytesOf cells) sm5 levels path) (bytesOf cells) (memberCount ms) (at + 12)) (room 0 0 0 (membersSize ms)) (mapMembers (textIn cells)) (mapMembers nameIn ms))
+      → Reads (readMembers (readType (bytesOf cells) sm5 levels path) (bytesOf cells) (suc (memberCount ms)) at) (room 0 0 0 (typeSize t + membersSize ms)) (mapMembers (textIn cells)) (mapMembers nameIn (member n f t ms))
+  unfolding readMembers mapMembers
+  member-read levels path n f t ms name type at ws named small-type small-offset h read-type read-others =
+      record {
+        found = member (inChunk name (length n)) f (read-type .found) (others .found);
+        takes =
+            free-then _ _ (check-takes _ 7 (inside-bytes cells at 12 (omega (arith, words-fit cells at (name ∷ type ∷ f ∷ ws) h))))
+            (free-then _ _ (text-takes 11 _ name (length n) (ap (cstringAt (bytesOf cells)) (first .0) ∙ named .found))
+            (then-takes _ (room 0 0 0 (typeSize t)) (room 0 0 0 (membersSize ms)) (subst (λ x. Takes (readType (bytesOf cells) sm5 levels path x) (room 0 0 0 (typeSize t)) (read-type .found)) (sym (second .0)) (read-type .takes))
+            (then-free _ _ (others .takes) (returns _ _ (ap (λ (x : ℕ). member (inChunk name (length n)) x (read-type .found) (others .found)) offset)))));
+        is = λ i. member (named .is i) f (read-type .is i) (others .is i);
+      }
+    where
+      first : (wordAt (bytesOf cells) at ≡ name) × WordsAt cells (at + 4) (type ∷ f ∷ ws)
+      first = words-first cells at name (type ∷ f ∷ ws) (omega (arith, named .below-end)) h
+
+      second : (wordAt (bytesOf cells) (at + 4) ≡ type) × WordsAt cells (at + 4 + 4) (f ∷ ws)
+      second = words-first cells (at + 4) type (f ∷ ws) small-type (first .1)
+
+      third : (wordAt (bytesOf cells) (at + 4 + 4) ≡ f) × WordsAt cells (at + 4 + 4 + 4) ws
+      third = words-first cells (at + 4 + 4) f ws small-offset (second .1)
+
+      offset : wordAt (bytesOf cells) (at + 8) ≡ f
+      offset = ap (wordAt (bytesOf cells)) (sym (add-assoc at 4 4)) ∙ third .0
+
+      others : Reads (readMembers (readType (bytesOf cells) sm5 levels path) (bytesOf cells) (memberCount ms) (at + 12)) (room 0 0 0 (membersSize ms)) (mapMembers (textIn cells)) (mapMembers nameIn ms)
+      others = read-others (subst (λ a. WordsAt cells a ws) (let e : at + 4 + 4 + 4 ≡ at + 12 = omega arith in e) (third .1))
+
   members-read-back : (o levels : ℕ) (path : List ℕ) → All (λ q. o < q) path → (ms : Members Bytes) (ws : List ℕ) (at : ℕ) → ReadableMembers sm5 ms → FitsAll ms levels
       → MembersAt cells sm5 ms ws o → WordsAt cells at ws
-      → (p : Members Text) × Takes (readMembers (λ below. readType (bytesOf cells) sm5 levels (o ∷ path) below) (bytesOf cells) (memberCount ms) at) (room 0 0 0 (membersSize ms)) p
-      × (mapMembers (textIn cells) p ≡ mapMembers nameIn ms)
+      → Reads (readMembers (readType (bytesOf cells) sm5 levels (o ∷ path)) (bytesOf cells) (memberCount ms) at) (room 0 0 0 (membersSize ms)) (mapMembers (textIn cells)) (mapMembers nameIn ms)
   unfolding readMembers memberCount mapMembers FitsAll membersSize ReadableMembers
-  members-read-back o levels path above noMember [] at fine fits all h = (noMember, return-takes noMember, refl)
+  members-read-back o levels path above noMember [] at fine fits all h = record { found = noMember; takes = return-takes noMember; is = refl }
   members-read-back o levels path above noMember (x ∷ ws) at fine fits all h = absurd all
   members-read-back o levels path above (member n f t ms) [] at fine fits all h = absurd all
   members-read-back o levels path above (member n f t ms) (x ∷ []) at fine fits all h = absurd all
   members-read-back o levels path above (member n f t ms) (x ∷ y ∷ []) at fine fits all h = absurd all
   members-read-back o levels path above (member n f t ms) (name ∷ type ∷ offset ∷ ws) at fine fits all h =
-      let (w₀, h₁) = words-first cells at name (type ∷ offset ∷ ws) (omega (arith, all .0 .below-end)) h in
-      let (w₁, h₂) = words-first cells (at + 4) type (offset ∷ ws) (omega (arith, all .1 .below-end)) h₁ in
-      let (w₂, h₃) = words-first cells (at + 4 + 4) offset ws (omega (arith, all .3, fine .0)) h₂ in
-      let next : WordsAt cells (at + 12) ws = subst (λ a. WordsAt cells a ws) (let e : at + 4 + 4 + 4 ≡ at + 12 = omega arith in e) h₃ in
-      let (pt, et, vt) = all .1 .reads levels (o ∷ path) (fits .0) (all .2, all-weaken (λ q lt. omega (arith, all .2)) path above) in
-      let (pm, em, vm) = members-read-back o levels path above ms ws (at + 12) (fine .2) (fits .1) (all .4) next in
-      let off : wordAt (bytesOf cells) (at + 8) ≡ f = ap (wordAt (bytesOf cells)) (sym (add-assoc at 4 4)) ∙ w₂ ∙ all .3 in (
-        member (inChunk name (length n)) f pt pm,
-        free-then _ _ (check-takes _ 7 (inside-bytes cells at 12 (omega (arith, words-fit cells at (name ∷ type ∷ offset ∷ ws) h))))
-            (free-then _ _ (text-takes 11 _ name (length n) (ap (cstringAt (bytesOf cells)) w₀ ∙ all .0 .found))
-            (then-takes _ (room 0 0 0 (typeSize t)) (room 0 0 0 (membersSize ms)) (subst (λ x. Takes (readType (bytesOf cells) sm5 levels (o ∷ path) x) (room 0 0 0 (typeSize t)) pt) (sym w₁) et)
-            (then-free _ _ em (returns _ (member (inChunk name (length n)) f pt pm) (ap (λ (x : ℕ). member (inChunk name (length n)) x pt pm) off))))),
-        λ i. member (all .0 .is i) f (vt i) (vm i),
-      )
+      member-read levels (o ∷ path) n f t ms name type at ws (all .0) (omega (arith, all .1 .below-end)) (fine .0) (subst (λ x. WordsAt cells at (name ∷ type ∷ x ∷ ws)) (all .3) h)
+      (all .1 .reads levels (o ∷ path) (fits .0) (all .2, all-weaken (λ q lt. omega (arith, all .2)) path above))
+      (λ next. members-read-back o levels path above ms ws (at + 12) (fine .2) (fits .1) (all .4) next)
 
   -- The descriptor at o, its member records at `members`, its name at `name`.
   pub type-at : (o members name : ℕ) (k : TypeNumbers) (n : Bytes) (ms : Members Bytes) (ws : List ℕ) → ReadableType sm5 (typeDesc k n ms) → members ≤ o → MembersAt cells sm5 ms ws o
@@ -174,23 +192,35 @@ module _ (cells : List (Cell Bytes Bytes)) (sm5 : Bool) (short : length cells �
       small-name : Longer sm5 name
       small-name = name-small cells sm5 name n short (fine .1) named
 
+      count : highAt (bytesOf cells) (o + 8) ≡ memberCount ms
+      count = count-read cells sm5 k (memberCount ms) members name o (fine .0) (fine .2) small-members small-name h
+
+      where-members : wordAt (bytesOf cells) (o + 12) ≡ members
+      where-members = members-read cells sm5 k (memberCount ms) members name o (fine .0) (fine .2) small-members small-name h
+
+      numbers : numbersFrom (bytesOf cells) sm5 o ≡ k
+      numbers = numbers-read cells sm5 k (memberCount ms) members name o (fine .0) (fine .2) small-members small-name h
+
+      where-name : wordIf sm5 (bytesOf cells) (o + 32) ≡ name
+      where-name = longer-is cells sm5 k (memberCount ms) members name o (fine .0) (fine .2) small-members small-name h 4 32 (omega arith) refl
+
+      fits-here : o + typeStride sm5 ≤ length cells
+      fits-here = descriptor-fits cells sm5 k (memberCount ms) members name o (fine .0) (fine .2) small-members small-name h
+
       reads : (levels : ℕ) (path : List ℕ) → Fits (typeDesc k n ms) levels → All (λ q. o < q) path
-          → (p : TypeDesc Text) × Takes (readType (bytesOf cells) sm5 levels path o) (room 0 0 0 (1 + membersSize ms)) p × (mapType (textIn cells) p ≡ mapType nameIn (typeDesc k n ms))
+          → Reads (readType (bytesOf cells) sm5 levels path o) (room 0 0 0 (1 + membersSize ms)) (mapType (textIn cells)) (mapType nameIn (typeDesc k n ms))
       reads zero path fits above = absurd fits
       reads (suc levels) path fits above =
-          let (pm, em, vm) = members-read-back o levels path above ms ws members (fine .3) fits all records in
-          let count = count-read cells sm5 k (memberCount ms) members name o (fine .0) (fine .2) small-members small-name h in
-          let where-members = members-read cells sm5 k (memberCount ms) members name o (fine .0) (fine .2) small-members small-name h in
-          let numbers = numbers-read cells sm5 k (memberCount ms) members name o (fine .0) (fine .2) small-members small-name h in
-          let where-name = longer-is cells sm5 k (memberCount ms) members name o (fine .0) (fine .2) small-members small-name h 4 32 (omega arith) refl in
-          let fits-here = descriptor-fits cells sm5 k (memberCount ms) members name o (fine .0) (fine .2) small-members small-name h in (
-            typeDesc k (inChunk name (length n)) pm,
-            free-then _ _ (check-takes (not (onPath o path)) 14 (ap not (below-not-on-path o path above)))
+          let ps = members-read-back o levels path above ms ws members (fine .3) fits all records in
+          record {
+            found = typeDesc k (inChunk name (length n)) (ps .found);
+            takes =
+                free-then _ _ (check-takes (not (onPath o path)) 14 (ap not (below-not-on-path o path above)))
                 (then-takes _ (room 0 0 0 1) (room 0 0 0 (membersSize ms)) type-takes
                 (free-then _ _ (check-takes _ 7 (inside-bytes cells o (typeStride sm5) fits-here))
-                (then-free _ _ (subst (λ x. Takes (readMembers (λ below. readType (bytesOf cells) sm5 levels (o ∷ path) below) (bytesOf cells) x (wordAt (bytesOf cells) (o + 12))) (room 0 0 0 (membersSize ms)) pm) (sym count)
-                (subst (λ x. Takes (readMembers (λ below. readType (bytesOf cells) sm5 levels (o ∷ path) below) (bytesOf cells) (memberCount ms) x) (room 0 0 0 (membersSize ms)) pm) (sym where-members) em))
+                (then-free _ _ (subst (λ x. Takes (readMembers (readType (bytesOf cells) sm5 levels (o ∷ path)) (bytesOf cells) x (wordAt (bytesOf cells) (o + 12))) (room 0 0 0 (membersSize ms)) (ps .found)) (sym count)
+                (subst (λ x. Takes (readMembers (readType (bytesOf cells) sm5 levels (o ∷ path)) (bytesOf cells) (memberCount ms) x) (room 0 0 0 (membersSize ms)) (ps .found)) (sym where-members) (ps .takes)))
                 (then-free _ _ (text-takes 11 _ name (length n) (type-name-found cells sm5 o name n (fine .1) named where-name))
-                (returns _ _ (ap (λ (x : TypeNumbers). typeDesc x (inChunk name (length n)) pm) numbers)))))),
-            λ i. typeDesc k (named .is i) (vm i),
-          )
+                (returns _ _ (ap (λ (x : TypeNumbers). typeDesc x (inChunk name (length n)) (ps .found)) numbers))))));
+            is = λ i. typeDesc k (named .is i) (ps .is i);
+          }

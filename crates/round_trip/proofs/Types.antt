@@ -1,9 +1,9 @@
 -- Where a type is placed, its descriptor reads as the type and lies below the cursor: by induction on the type. A type that a pool has is an equal one.
-use mathlib.Core.Path.{_≡_, refl, ap, sym, _∙_, subst}
-use mathlib.Core.List.{List, [], _∷_, _++_, map}
+use mathlib.Core.Path.{_≡_, refl, sym, subst}
+use mathlib.Core.List.{List, [], _∷_}
 use mathlib.Core.Bool.{Bool, true, false, _&&_}
-use mathlib.Core.Option.{Option, none, some}
-use Prim.Native.Nat.{ℕ, zero, suc, _+_, _*_, _<_, _≤_}
+use mathlib.Core.Option.{some}
+use Prim.Native.Nat.{ℕ, _+_, _*_, _<_, _≤_}
 use native.Mathlib.Omega.{arith}
 use borrow.Author.Tests.{eqb-true}
 use lib.ListN.{length, getD}
@@ -14,15 +14,14 @@ use Rattle.text.proofs.SameBytes.{same-bytes-equal}
 use Rattle.reflection.specs.Reflection.{TypeNumbers, TypeDesc, typeDesc, Members, noMember, member, memberCount}
 use Rattle.reflection.specs.Contents.{Bytes}
 use Rattle.reading.specs.Read.{typeStride}
-use Rattle.readable.specs.Readable.{nameReadable}
-use Rattle.writing.specs.Step.{Cell, Pools, Step, _>>=_, append, pad, wordCells, find, unlessEmpty, addType}
+use Rattle.writing.specs.Step.{Cell, Pools, _>>=_, append, pad, wordCells, find, unlessEmpty, addType}
 use Rattle.writing.specs.Records.{typeWords}
 use Rattle.writing.specs.Same.{numbersOf, sameType, sameMembers}
-use Rattle.writing.specs.Layout.{placeInnerName, writeType, placeType, placeMembers}
+use Rattle.writing.specs.Layout.{writeType, placeType, placeMembers}
 use Rattle.writing.specs.Canonical.{bytesOracle}
-use Rattle.round_trip.proofs.Lists.{All, found-entry}
-use Rattle.round_trip.proofs.Holds.{Holds, holds-nothing, length-wordCells, WordsAt, words-fit}
-use Rattle.round_trip.proofs.Texts.{NameAt, NameOrEmpty}
+use Rattle.round_trip.proofs.Lists.{found-entry}
+use Rattle.round_trip.proofs.Holds.{holds-nothing, length-wordCells, WordsAt, words-fit}
+use Rattle.round_trip.proofs.Texts.{NameOrEmpty}
 use Rattle.round_trip.proofs.Steps.{TypeAt, PoolsHold, Leaves, bind-leaves, below-leaves, return-leaves, rememberIf-leaves, Appended, append-leaves, pad-leaves, once-leaves, unlessEmpty-leaves, weaken-leaves}
 use Rattle.round_trip.proofs.Names.{placeInnerName-leaves, placeTypeName-leaves}
 use Rattle.round_trip.proofs.Conditions.{ReadableType, ReadableMembers}

@@ -1,30 +1,28 @@
 -- Where variables are placed, each of their records reads as the variable, with its default at the offset that the layout's result says: by the laws on
 -- names, types and defaults, and by the words of the record.
 use mathlib.Core.Path.{_≡_, refl, ap, sym, _∙_, subst}
-use mathlib.Core.List.{List, [], _∷_, _++_, map}
+use mathlib.Core.List.{List, [], _∷_}
 use mathlib.Core.Bool.{Bool, true, false}
-use Prim.Native.Nat.{ℕ, zero, suc, _+_, _*_, _/_, _<_, _≤_}
+use Prim.Native.Nat.{ℕ, suc, _+_, _*_, _<_, _≤_}
 use native.Mathlib.Omega.{arith}
 use native.Mathlib.Nat.{add-zero}
-use lib.Dec.{eqb}
 use lib.ListN.{length, getD}
 use Rattle.words.specs.Words.{wordAt}
-use Rattle.text.specs.declared.Found.the-variants.{At, Bad}
 use Rattle.text.specs.Strings.{cstringAt}
 use Rattle.reflection.specs.declared.Text.{Text}
-use Rattle.reflection.specs.Reflection.{CBufferVariable, mapVariable, mapType}
+use Rattle.reflection.specs.Reflection.{CBufferVariable, mapVariable}
 use Rattle.reflection.specs.Nodes.{typeLevels}
 use Rattle.reflection.specs.Texts.{inChunk}
 use Rattle.reflection.specs.Contents.{Bytes}
 use Rattle.reading.specs.Step.{Room, room}
 use Rattle.reading.specs.Read.{variableStride, wordIf, readType, defaultAt, variableFrom, readVariable}
-use Rattle.writing.specs.Step.{Cell, Pools, Step, _>>=_, return}
+use Rattle.writing.specs.Step.{Cell, Pools, _>>=_, return}
 use Rattle.writing.specs.Records.{VariableOffsets, variableWords, variableSize, wordsIf}
 use Rattle.writing.specs.Layout.{placeVariable, placeVariables}
 use Rattle.writing.specs.Canonical.{bytesOracle}
 use Rattle.round_trip.specs.RoundTrip.{Words}
-use Rattle.round_trip.proofs.Lists.{All, Zip, Zip3}
-use Rattle.round_trip.proofs.Holds.{bytesOf, WordsAt, Longer, inside-bytes, row-word, words-fit, words-split, longer-word}
+use Rattle.round_trip.proofs.Lists.{All, Zip}
+use Rattle.round_trip.proofs.Holds.{bytesOf, WordsAt, inside-bytes, row-word, words-fit, words-split, longer-word}
 use Rattle.round_trip.proofs.Rooms.{plus, Takes, then-takes, free-then, then-free, returns, check-takes, text-takes, variable-takes}
 use Rattle.round_trip.proofs.Texts.{textIn, nameIn, defaultIn, NameAt, DefaultAt}
 use Rattle.round_trip.proofs.Steps.{typeSize, TypeAt, Leaves, bind-leaves, return-leaves}
@@ -60,7 +58,7 @@ module _ (cells : List (Cell Bytes Bytes)) (short : length cells ≤ 65536) (sm5
       → (p : CBufferVariable Text Text) × Takes (readVariable (bytesOf cells) sm5 at) (variableCost v) p × VariableRead cells v o p
   unfolding readVariable mapVariable variableWords variableFrom Words
   variable-read v o at there h =
-      let (type, type-read, type-is) = there .type .reads typeLevels [] (there .fine .deep) tt in
+      let type = there .type .reads typeLevels [] (there .fine .deep) tt in
       let name : Text = inChunk (o .name) (length (v .name)) in
       let default : Text = inChunk (o .default) (length (v .default-value)) in
       let p : CBufferVariable Text Text = record {
@@ -73,14 +71,14 @@ module _ (cells : List (Cell Bytes Bytes)) (short : length cells ≤ 65536) (sm5
         texture-size = v .texture-size;
         sampler-start = v .sampler-start;
         sampler-size = v .sampler-size;
-        var-type = type;
+        var-type = type .found;
       } in (
         p,
         then-takes _ (room 0 0 1 0) (room 0 0 0 (typeSize (v .var-type))) variable-takes
             (free-then _ _ (check-takes _ 7 (inside-bytes cells at (variableStride sm5) (omega (arith, words-fit cells at (variableWords sm5 v o) h, length-variableWords sm5 v o))))
             (free-then _ _ (text-takes 12 _ (o .default) (length (v .default-value)) ((λ i. defaultAt (bytesOf cells) (word 5 (omega arith) i) (word 2 (omega arith) i)) ∙ there .default .found (v .size) (there .fine .default)))
             (free-then _ _ (text-takes 11 _ (o .name) (length (v .name)) (ap (cstringAt (bytesOf cells)) word-0 ∙ there .name .found))
-            (then-free _ _ (subst (λ w. Takes (readType (bytesOf cells) sm5 typeLevels [] w) (room 0 0 0 (typeSize (v .var-type))) type) (sym (word 4 (omega arith))) type-read)
+            (then-free _ _ (subst (λ w. Takes (readType (bytesOf cells) sm5 typeLevels [] w) (room 0 0 0 (typeSize (v .var-type))) (type .found)) (sym (word 4 (omega arith))) (type .takes))
             (returns _ p (λ i. record {
               name = name;
               offset = word 1 (omega arith) i;
@@ -91,7 +89,7 @@ module _ (cells : List (Cell Bytes Bytes)) (short : length cells ≤ 65536) (sm5
               texture-size = slot 1 28 (omega arith) refl i;
               sampler-start = slot 2 32 (omega arith) refl i;
               sampler-size = slot 3 36 (omega arith) refl i;
-              var-type = type;
+              var-type = type .found;
             })))))),
         record {
           is = λ i. record {
@@ -104,7 +102,7 @@ module _ (cells : List (Cell Bytes Bytes)) (short : length cells ≤ 65536) (sm5
             texture-size = v .texture-size;
             sampler-start = v .sampler-start;
             sampler-size = v .sampler-size;
-            var-type = type-is i;
+            var-type = type .is i;
           };
           default = refl;
         },

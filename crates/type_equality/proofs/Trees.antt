@@ -10,7 +10,7 @@ use lib.ListN.{length}
 use Rattle.reflection.specs.declared.Text.{Text}
 use Rattle.reflection.specs.Reflection.{TypeDesc, typeDesc, Members, noMember, member}
 use Rattle.reflection.specs.Records.{typeWidth, holdsRecord}
-use Rattle.type_equality.specs.Trees.{Walked, nodeAt, hasMember, membersAt, treeAt, typeTree}
+use Rattle.type_equality.specs.Trees.{Walked, nodeAt, hasMember, membersAt, treeAt, typeTree, membersOf}
 
 -- Without levels a type has no members.
 pub tree-flat : (types : List ℕ) (levels k : ℕ) → levels ≡ 0
@@ -31,11 +31,7 @@ tree-deep types (suc levels) k h =
     let less : suc levels - 1 ≡ levels = omega arith in
     rw less
 
--- The members of the type at a node.
-unfoldable pub membersOf : List ℕ → ℕ → ℕ → Members Text
-membersOf types zero k = noMember
-membersOf types (suc levels) k = membersAt (treeAt types levels) types (nodeAt types k .member-count) (k + 1) .it
-
+-- A type is its node and its members.
 pub type-is : (types : List ℕ) (levels k : ℕ) → typeTree types levels k ≡ typeDesc (nodeAt types k .numbers) (nodeAt types k .name) (membersOf types levels k)
 unfolding typeTree treeAt membersOf
 type-is types zero k = refl

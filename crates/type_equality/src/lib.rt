@@ -3,5 +3,6 @@ mod same;
 mod skip;
 
 pub use same::same_type;
+pub use same::same_type_between;
 pub use skip::has_member;
 pub use skip::skip_type;

@@ -1,4 +1,4 @@
-// Whether two types of the table are equal: their numbers, names and members (document 01, "Canonical form").
+// Whether two types, of one table or of two, are equal: their numbers, names and members (document 01, "Canonical form").
 ghost use mathlib.Core.Path.{_≡_};
 ghost use Prim.Native.Nat.{_≤_};
 ghost use Rattle.text.specs.Same.{sameBytes};
@@ -51,7 +51,7 @@ fn same_name<'a>(chunk: &'a [u8], edits: &'a [u8], x: Text, y: Text) -> bool
     text::same_text(a, b)
 }
 
-// Whether the types at nodes a and b are equal, each with at most so many levels of members.
+// Whether the type at node a of the table and the type at node b of it are equal, each with at most so many levels of members.
 pub fn same_type<'a>(
     chunk: &'a [u8],
     edits: &'a [u8],
@@ -63,8 +63,24 @@ pub fn same_type<'a>(
     requires { ⌜ (a ≤ 0x1000_0000_0000_0000) × (b ≤ 0x1000_0000_0000_0000) ⌝ }
     ensures { λ r. ⌜ r ≡ sameType (sameName (now (chunk .entry)) (now (edits .entry))) (typeTree (now (types .entry)) levels a) (typeTree (now (types .entry)) levels b) ⌝ }
 {
+    same_type_between(chunk, edits, types, a, types, b, levels)
+}
+
+// Whether the type at node a of one table and the type at node b of another are equal, each with at most so many levels of members.
+pub fn same_type_between<'a>(
+    chunk: &'a [u8],
+    edits: &'a [u8],
+    types: &[u32],
+    a: usize,
+    others: &[u32],
+    b: usize,
+    levels: usize,
+) -> bool
+    requires { ⌜ (a ≤ 0x1000_0000_0000_0000) × (b ≤ 0x1000_0000_0000_0000) ⌝ }
+    ensures { λ r. ⌜ r ≡ sameType (sameName (now (chunk .entry)) (now (edits .entry))) (typeTree (now (types .entry)) levels a) (typeTree (now (others .entry)) levels b) ⌝ }
+{
     let x = reflection::type_at(types, a);
-    let y = reflection::type_at(types, b);
+    let y = reflection::type_at(others, b);
     if !same_numbers(x, y) {
         return false;
     }
@@ -80,50 +96,52 @@ pub fn same_type<'a>(
         types,
         x.member_count,
         a + 1,
+        others,
         y.member_count,
         b + 1,
         levels - 1,
     )
 }
 
-// Whether m members from node a on and n members from node b on are equal. A loop, so that the stack holds at most two frames for each level.
+// Whether m members from node a on and n members from node b of the other table on are equal. A loop, so that the stack holds at most two frames for each level.
 fn same_members<'a>(
     chunk: &'a [u8],
     edits: &'a [u8],
     types: &[u32],
     m: u32,
     a: usize,
+    others: &[u32],
     n: u32,
     b: usize,
     levels: usize,
 ) -> bool
     ensures { λ r. ⌜ r ≡ sameMembers (sameName (now (chunk .entry)) (now (edits .entry)))
         (membersAt (treeAt (now (types .entry)) levels) (now (types .entry)) m a .it)
-        (membersAt (treeAt (now (types .entry)) levels) (now (types .entry)) n b .it) ⌝ }
+        (membersAt (treeAt (now (others .entry)) levels) (now (others .entry)) n b .it) ⌝ }
 {
     let mut left = m;
     let mut other_left = n;
     let mut i = a;
     let mut j = b;
     while has_member(types, left, i) {
-        if !has_member(types, other_left, j) {
+        if !has_member(others, other_left, j) {
             return false;
         }
         let x = reflection::type_at(types, i);
-        let y = reflection::type_at(types, j);
+        let y = reflection::type_at(others, j);
         if x.member_offset != y.member_offset {
             return false;
         }
         if !same_name(chunk, edits, x.member_name, y.member_name) {
             return false;
         }
-        if !same_type(chunk, edits, types, i, j, levels) {
+        if !same_type_between(chunk, edits, types, i, others, j, levels) {
             return false;
         }
         i = skip_type(types, i, levels);
-        j = skip_type(types, j, levels);
+        j = skip_type(others, j, levels);
         left -= 1;
         other_left -= 1;
     }
-    !has_member(types, other_left, j)
+    !has_member(others, other_left, j)
 }

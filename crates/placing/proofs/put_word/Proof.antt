@@ -1,0 +1,50 @@
+-- `put_word` meets its contract: the word is written at once where it has room, else byte by byte.
+use mathlib.Core.Path.{sym, _∙_}
+use native.Mathlib.Omega.{arith}
+use lib.ListN.{length}
+use Rattle.words.proofs.Words.{length-wordBytes}
+use Rattle.words.proofs.Parts.{inside-fits}
+use borrow.Author.Needs.{needs}
+use Rattle.placing.proofs.put_word.Statement.{statement}
+use Rattle.placing.proofs.put_word.Tie as tie
+
+inside-requires : tie.Need-inside-requires
+inside-requires c κs = search needs
+
+put-word-within-requires : tie.Need-put-word-within-requires
+put-word-within-requires c κs = inside-fits (length (c .before .before .before .before .args .out .now)) (c .before .before .before .before .args .at) 4 (sym (c .before .before .inside .ensures) ∙ c .before .if1 .taken)
+
+add-result : tie.Need-add-result
+add-result c = search needs
+
+same-length : tie.Need-same-length
+same-length c = search needs
+
+returns : tie.Need-returns
+returns c = record { list = c .before .before .put-word-within .ensures; next = omega (arith, length-wordBytes (c .before .before .before .before .before .before .before .args .word)) }
+
+put-word-near-end-requires : tie.Need-put-word-near-end-requires
+put-word-near-end-requires c κs = search needs
+
+add-result-2 : tie.Need-add-result-2
+add-result-2 c = search needs
+
+same-length-2 : tie.Need-same-length-2
+same-length-2 c = search needs
+
+returns-2 : tie.Need-returns-2
+returns-2 c = record { list = c .before .before .put-word-near-end .ensures; next = omega (arith, length-wordBytes (c .before .before .before .before .before .before .before .args .word)) }
+
+pub put-word-spec : {M : Type 1} → statement M
+put-word-spec =
+    tie.close
+    (tie.spec
+    inside-requires
+    put-word-within-requires
+    add-result
+    same-length
+    returns
+    put-word-near-end-requires
+    add-result-2
+    same-length-2
+    returns-2)

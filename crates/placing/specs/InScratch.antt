@@ -1,0 +1,39 @@
+-- What placing a name or a default does to the scratch: the pool that it is looked up in changes, and no word outside that pool's region.
+use mathlib.Core.Path.{_≡_}
+use mathlib.Core.List.{List}
+use Prim.Native.Nat.{ℕ, _+_, _≤_, _<_}
+use lib.ListN.{length, getD}
+use Rattle.reflection.specs.declared.Text.{Text}
+use Rattle.reflection.specs.Reflection.{TypeDesc}
+use Rattle.writing.specs.Step.{Step}
+use Rattle.text_pool.specs.Pool.{entryCount}
+use Rattle.placing.specs.Ran.{Ran}
+use Rattle.placing.specs.Scratch.{Ready, poolsIn}
+use Rattle.placing.specs.declared.Spot.{Spot}
+
+-- How many entries each pool of texts has room for.
+abbrev pub outerRoom : ℕ
+outerRoom = 1433
+
+abbrev pub innerRoom : ℕ
+innerRoom = 8396
+
+abbrev pub defaultRoom : ℕ
+defaultRoom = 2252
+
+-- The words outside a region are what they were, and there are as many.
+pub record Kept (from to : ℕ) (s s′ : List ℕ) : Type 0 where
+  pub long : length s′ ≡ length s
+  pub before : (i : ℕ) → i < from → getD s′ i 0 ≡ getD s i 0
+  pub after : (i : ℕ) → to ≤ i → getD s′ i 0 ≡ getD s i 0
+
+-- A step that places a text ran from the pools in the scratch to those that are there now. The pool that it is looked up in is `pool`, its region from..to.
+pub record TextPlaced (chunk edits : List ℕ) (step : Step Text Text ℕ) (at : ℕ) (pool : List ℕ → List ℕ) (from to : ℕ) (s s′ out out′ : List ℕ) (r : Spot) : Type 0 where
+  pub ran : (types : List (TypeDesc Text × ℕ)) (tree : ℕ → TypeDesc Text) (base n : ℕ)
+      → Ran chunk edits step at (poolsIn s types tree base n) out out′ (r .offset) (r .at) (poolsIn s′ types tree base n)
+  pub ready : Ready chunk edits s′
+  pub kept : Kept from to s s′
+  pub count-low : entryCount (pool s) ≤ entryCount (pool s′)
+  pub count-high : entryCount (pool s′) ≤ entryCount (pool s) + 1
+  pub near-low : at ≤ r .at
+  pub near-high : r .at ≤ at + 65540
