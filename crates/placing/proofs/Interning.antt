@@ -4,25 +4,24 @@ use mathlib.Core.Path.{_≡_, refl, ap, sym, _∙_, subst}
 use mathlib.Core.Bool.{Bool, true, false}
 use mathlib.Core.List.{List, [], _∷_, _++_}
 use mathlib.Core.Option.{Option, none, some}
-use Prim.Native.Nat.{ℕ, zero, suc, _+_, _≤_}
+use Prim.Native.Nat.{ℕ, zero, suc, _≤_}
 use native.Mathlib.Omega.{arith}
 use lib.Dec.{eqb}
 use lib.ListN.{length, replicate, take, drop, length-append, length-replicate}
 use Rattle.words.specs.Parts.{inside, part}
 use Rattle.words.proofs.Parts.{part-inside, part-outside}
-use Rattle.words.specs.Splice.{Put, put-then}
+use Rattle.words.specs.Splice.{Put}
 use Rattle.text.specs.Same.{sameBytes}
 use Rattle.reflection.specs.declared.Text.{Text}
 use Rattle.reflection.specs.Texts.{textBytes}
-use Rattle.writing.specs.Step.{Pools, pools, Step, _>>=_, append, remember, pad, paddingAt, find, once, unlessEmpty, cellsOf, defaultByte, addOuterName, addInnerName, addDefault}
+use Rattle.writing.specs.Step.{Pools, Step, _>>=_, append, remember, pad, paddingAt, find, once, cellsOf, defaultByte, addOuterName, addInnerName, addDefault}
 use Rattle.writing.specs.Layout.{nameCells, placeOuterName, placeInnerName, placeDefault}
 use Rattle.writing.specs.Canonical.{bytesOracle, through}
 use Rattle.text_pool.specs.declared.Pooled.{Pooled}
 use Rattle.text_pool.specs.declared.Pooled.the-variants.{At, Absent}
-use Rattle.text_pool.specs.Pool.{Indexed, entries, entryCount, bucketOf, pooledAt, Remembered}
+use Rattle.text_pool.specs.Pool.{Indexed, entries, bucketOf, pooledAt, Remembered}
 use Rattle.placing.specs.Ran.{Ran, textOracle}
 use Rattle.placing.specs.Pooling.{Short, Open, Grown, withOuterNames, withInnerNames, withDefaults, NamePlaced, DefaultPlaced}
-use Rattle.placing.specs.declared.Spot.{Spot}
 use Rattle.placing.proofs.CellBytes.{cell-bytes-name, cell-bytes-default}
 use Rattle.placing.proofs.Stores.{padding-short}
 use Rattle.placing.proofs.Runs.{ran-bind, ran-append, ran-pad, ran-remember, ran-empty, ran-unless-empty, ran-once-found, ran-once-fresh, ran-like}

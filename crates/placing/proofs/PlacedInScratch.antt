@@ -2,17 +2,15 @@
 -- them and the others lie outside its region.
 use mathlib.Core.Path.{_≡_, refl, ap, sym, _∙_, subst}
 use mathlib.Core.List.{List, _++_}
-use Prim.Native.Nat.{ℕ, _+_, _*_, _-_, _≤_, _<_}
+use Prim.Native.Nat.{ℕ, _-_, _<_}
 use native.Mathlib.Omega.{arith}
 use lib.ListN.{length, take, drop}
 use Rattle.reflection.specs.declared.Text.{Text}
-use Rattle.reflection.specs.Reflection.{TypeDesc}
-use Rattle.writing.specs.Step.{Pools}
 use Rattle.writing.specs.Layout.{placeOuterName, placeInnerName, placeDefault}
-use Rattle.text_pool.specs.Pool.{Indexed, entries, entryCount, entriesStart, entryWidth}
+use Rattle.text_pool.specs.Pool.{Indexed, entries, entryCount}
 use Rattle.placing.specs.Ran.{textOracle}
-use Rattle.placing.specs.Pooling.{Open, Grown, withOuterNames, withInnerNames, withDefaults, NamePlaced, DefaultPlaced}
-use Rattle.placing.specs.Scratch.{region, outerPool, innerPool, defaultPool, innerStart, defaultsStart, rootTypesStart, scratchEnd, poolsIn, Ready}
+use Rattle.placing.specs.Pooling.{Open, withOuterNames, withInnerNames, withDefaults, NamePlaced, DefaultPlaced}
+use Rattle.placing.specs.Scratch.{outerPool, innerPool, defaultPool, innerStart, defaultsStart, rootTypesStart, poolsIn, Ready}
 use Rattle.placing.specs.InScratch.{outerRoom, innerRoom, defaultRoom, Kept, TextPlaced}
 use Rattle.placing.specs.declared.Spot.{Spot}
 use Rattle.placing.proofs.Runs.{ran-like}

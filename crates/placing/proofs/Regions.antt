@@ -7,7 +7,7 @@ use Prim.Native.Nat.{ℕ, zero, suc, _+_, _*_, _-_, _≤_, _<_}
 use native.Mathlib.Omega.{arith}
 use lib.Dec.{ltb}
 use borrow.Author.Tests.{ltb-true, ltb-false}
-use lib.ListN.{length, getD, take, drop, length-append, length-drop, List·getD-append, List·getD-eq-default}
+use lib.ListN.{length, getD, take, drop, length-append, length-drop, List·getD-append}
 use lib.Seq.{ext-getD, getD-take, getD-drop, getD-append-add, length-take-le, take-at, drop-at}
 use Rattle.reflection.specs.declared.Text.{Text}
 use Rattle.reflection.specs.Reflection.{TypeDesc}

@@ -2,14 +2,13 @@
 -- follow those of the run before it, since the cursor moves by as many bytes as there are cells.
 use mathlib.Core.Path.{_≡_, refl, ap, sym, _∙_, subst}
 use mathlib.Core.Bool.{Bool, true, false}
-use mathlib.Core.List.{List, [], _∷_, _++_}
+use mathlib.Core.List.{List, [], _++_}
 use mathlib.Core.Option.{Option, none, some}
 use Prim.Native.Nat.{ℕ, zero, suc, _+_}
 use lib.ListN.{length, replicate, length-replicate}
 use Rattle.words.specs.Splice.{Put, put-none, put-then}
 use Rattle.reflection.specs.declared.Text.{Text}
-use Rattle.reflection.specs.Reflection.{TypeDesc}
-use Rattle.writing.specs.Step.{Cell, byte, Pools, Placed, Step, _>>=_, return, append, remember, pad, paddingAt, wordCells, found, once, rememberIf, unlessEmpty, below, goDown, comeUp}
+use Rattle.writing.specs.Step.{Cell, Pools, Placed, Step, _>>=_, return, append, remember, pad, paddingAt, wordCells, found, once, rememberIf, unlessEmpty, below, goDown, comeUp}
 use Rattle.placing.specs.Ran.{Ran, cellBytes}
 use Rattle.placing.specs.Bytes.{joinedBytes}
 use Rattle.placing.proofs.CellBytes.{length-cell-bytes, cell-bytes-append, cell-bytes-none, cell-bytes-words, cell-bytes-padding}

@@ -1,16 +1,16 @@
 -- The pools in the scratch when only one of its regions changed: the pools of texts in the other regions are what they were, and so are the entries of types. Each
 -- of them is read off its own region's words alone.
-use mathlib.Core.Path.{_≡_, refl, sym, ap, subst, _∙_}
+use mathlib.Core.Path.{_≡_, sym, subst}
 use mathlib.Core.List.{List}
-use Prim.Native.Nat.{ℕ, _+_, _*_, _≤_, _<_}
+use Prim.Native.Nat.{ℕ, _+_, _*_, _≤_}
 use native.Mathlib.Omega.{arith}
-use lib.ListN.{length, getD}
+use lib.ListN.{length}
 use Rattle.reflection.specs.declared.Text.{Text}
 use Rattle.reflection.specs.Reflection.{TypeDesc}
-use Rattle.writing.specs.Step.{Pools, pools}
+use Rattle.writing.specs.Step.{pools}
 use Rattle.text_pool.specs.Pool.{Indexed, entries}
 use Rattle.placing.specs.Pooling.{withOuterNames, withInnerNames, withDefaults}
-use Rattle.placing.specs.Scratch.{region, outerPool, innerPool, defaultPool, innerStart, defaultsStart, rootTypesStart, memberTypesStart, recordsStart, scratchEnd, typesFrom, poolsIn, Ready}
+use Rattle.placing.specs.Scratch.{outerPool, innerPool, defaultPool, innerStart, defaultsStart, rootTypesStart, memberTypesStart, scratchEnd, typesFrom, poolsIn, Ready}
 use Rattle.placing.specs.InScratch.{Kept}
 use Rattle.placing.proofs.Regions.{region-kept-before, region-kept-after, types-kept-before, types-kept-after}
 

@@ -1,12 +1,11 @@
 -- Stores one after the other are one write of their bytes, and padding is a part of three bytes of 0xAB.
-use mathlib.Core.Path.{_≡_, refl, ap, sym, _∙_}
+use mathlib.Core.Path.{_≡_, refl, ap, _∙_}
 use mathlib.Core.List.{List, [], _∷_}
 use Prim.Native.Nat.{ℕ, zero, suc, _+_, _-_, _%_, _≤_}
 use native.Mathlib.Nat.{sub-zero}
 use native.Mathlib.Omega.{arith}
-use lib.ListN.{set, take, drop, replicate}
-use Rattle.words.specs.Words.{wordBytes}
-use Rattle.words.specs.Splice.{splice, splice-one}
+use lib.ListN.{set, take, replicate}
+use Rattle.words.specs.Splice.{splice}
 use Rattle.writing.specs.Step.{paddingAt}
 
 module _ (l : List ℕ) (at a b c d : ℕ) where

@@ -25,17 +25,17 @@ use Rattle.reflection.specs.Contents.{Bytes, contents, innerNames, outerNames}
 use Rattle.readable.specs.Readable.{readable, held, isReadable, readableContents, rd11Absent, textsInPlace, roomKept, nodeCount, every, variableReadable, bindingReadable, nameReadable, versionReadable}
 
 -- What a step that gave something was given.
-then-was : {A B : Type 0} (m : Option A) (f : A → Option B) (b : B) → (m >>= f) ≡ some b → (a : A) × (m ≡ some a) × (f a ≡ some b)
+pub then-was : {A B : Type 0} (m : Option A) (f : A → Option B) (b : B) → (m >>= f) ≡ some b → (a : A) × (m ≡ some a) × (f a ≡ some b)
 unfolding _>>=_
 then-was none f b e = absurd (let apart : _≡_ {A = ℕ} 0 1 = cc in omega arith)
 then-was (some a) f b e = (a, refl, e)
 
-check-was : {B : Type 0} (test : Bool) (f : Unit {0} → Option B) (b : B) → (check test >>= f) ≡ some b → (test ≡ true) × (f tt ≡ some b)
+pub check-was : {B : Type 0} (test : Bool) (f : Unit {0} → Option B) (b : B) → (check test >>= f) ≡ some b → (test ≡ true) × (f tt ≡ some b)
 unfolding check _>>=_
 check-was true f b e = (refl, e)
 check-was false f b e = absurd (let apart : _≡_ {A = ℕ} 0 1 = cc in omega arith)
 
-some-was : {A : Type 0} {a b : A} → some a ≡ some b → a ≡ b
+pub some-was : {A : Type 0} {a b : A} → some a ≡ some b → a ≡ b
 some-was {a = a} e = ap (λ o. elim o [ none ↦ a | some x ↦ x ]) e
 
 length-records : {A : Type 0} (record-at : ℕ → A) (i n : ℕ) → length (recordsFrom record-at i n) ≡ n

@@ -16,3 +16,4 @@ pub mod Costs
 pub mod Header
 pub mod RoundTrip
 pub mod Instance
+pub mod HeldWords

@@ -13,7 +13,12 @@ name-part-requires : tie.Need-name-part-requires
 name-part-requires c κs = search needs
 
 returns : tie.Need-returns
-returns c = default-empty (c .before .before .before .before .before .before .args .chunk .now) (c .before .before .before .before .before .before .args .edits .now) (c .before .before .before .before .before .before .args .default) (c .before .before .before .before .before .before .args .at) (c .before .before .before .before .before .before .pre .1 .0) (c .before .name-part .ensures) (c .if1 .taken)
+returns c =
+    let a = c .before .before .before .before .before .before .args in
+    let pre = c .before .before .before .before .before .before .pre in
+    let name-part = c .before .name-part in
+    let if1 = c .if1 in
+    default-empty (a .chunk .now) (a .edits .now) (a .default) (a .at) (pre .1 .0) (name-part .ensures) (if1 .taken)
 
 bucket-requires : tie.Need-bucket-requires
 bucket-requires c κs = search needs
@@ -31,10 +36,18 @@ put-padding-requires : tie.Need-put-padding-requires
 put-padding-requires c κs = search needs
 
 put-bytes-requires : tie.Need-put-bytes-requires
-put-bytes-requires c κs = omega (arith, c .before .before .before .put-padding .ensures .next, length-replicate {A = ℕ} (paddingAt (c .before .before .before .before .before .before .before .before .before .before .before .before .before .before .before .before .args .at)) 0xab, padding-short (c .before .before .before .before .before .before .before .before .before .before .before .before .before .before .before .before .args .at), c .before .before .before .before .before .before .before .before .before .before .before .before .before .before .before .before .pre .1 .1)
+put-bytes-requires c κs =
+    let put-padding = c .before .before .before .put-padding in
+    let a = c .before .before .before .before .before .before .before .before .before .before .before .before .before .before .before .before .args in
+    let pre = c .before .before .before .before .before .before .before .before .before .before .before .before .before .before .before .before .pre in
+    omega (arith, put-padding .ensures .next, length-replicate {A = ℕ} (paddingAt (a .at)) 0xab, padding-short (a .at), pre .1 .1)
 
 cast-offset : tie.Need-cast-offset
-cast-offset c = omega (arith, c .before .before .before .before .before .before .put-padding .ensures .next, length-replicate {A = ℕ} (paddingAt (c .before .before .before .before .before .before .before .before .before .before .before .before .before .before .before .before .before .before .before .args .at)) 0xab, padding-short (c .before .before .before .before .before .before .before .before .before .before .before .before .before .before .before .before .before .before .before .args .at), c .before .before .before .before .before .before .before .before .before .before .before .before .before .before .before .before .before .before .before .pre .1 .1)
+cast-offset c =
+    let put-padding = c .before .before .before .before .before .before .put-padding in
+    let a = c .before .before .before .before .before .before .before .before .before .before .before .before .before .before .before .before .before .before .before .args in
+    let pre = c .before .before .before .before .before .before .before .before .before .before .before .before .before .before .before .before .before .before .before .pre in
+    omega (arith, put-padding .ensures .next, length-replicate {A = ℕ} (paddingAt (a .at)) 0xab, padding-short (a .at), pre .1 .1)
 
 remember-requires : tie.Need-remember-requires
 remember-requires c κs = search needs
@@ -43,7 +56,14 @@ same-length : tie.Need-same-length
 same-length c = search needs
 
 returns-2 : tie.Need-returns-2
-returns-2 c = default-found (c .before .before .before .before .before .before .before .before .before .before .before .before .args .chunk .now) (c .before .before .before .before .before .before .before .before .before .before .before .before .args .edits .now) (c .before .before .before .before .before .before .before .before .before .before .before .before .args .default) (c .before .before .before .before .before .before .before .before .before .before .before .before .args .at) (c .before .before .before .before .before .before .before .before .before .before .before .before .pre .1 .0) (record { wanted-is = c .before .before .before .before .before .before .before .name-part .ensures; looked-is = c .before .before .before .find-text .ensures }) (c .before .before .before .before .before .before .if1 .left) _ (c .before .offset .given .1)
+returns-2 c =
+    let a = c .before .before .before .before .before .before .before .before .before .before .before .before .args in
+    let pre = c .before .before .before .before .before .before .before .before .before .before .before .before .pre in
+    let name-part = c .before .before .before .before .before .before .before .name-part in
+    let find-text = c .before .before .before .find-text in
+    let if1 = c .before .before .before .before .before .before .if1 in
+    let offset = c .before .offset in
+    default-found (a .chunk .now) (a .edits .now) (a .default) (a .at) (pre .1 .0) (record { wanted-is = name-part .ensures; looked-is = find-text .ensures }) (if1 .left) _ (offset .given .1)
 
 same-length-2 : tie.Need-same-length-2
 same-length-2 c = search needs
@@ -52,7 +72,18 @@ same-length-3 : tie.Need-same-length-3
 same-length-3 c = search needs
 
 returns-3 : tie.Need-returns-3
-returns-3 c = default-fresh (c .before .before .before .before .before .before .before .before .before .before .before .before .before .before .before .before .before .before .before .before .before .before .before .args .chunk .now) (c .before .before .before .before .before .before .before .before .before .before .before .before .before .before .before .before .before .before .before .before .before .before .before .args .edits .now) (c .before .before .before .before .before .before .before .before .before .before .before .before .before .before .before .before .before .before .before .before .before .before .before .args .default) (c .before .before .before .before .before .before .before .before .before .before .before .before .before .before .before .before .before .before .before .before .before .before .before .args .at) (c .before .before .before .before .before .before .before .before .before .before .before .before .before .before .before .before .before .before .before .before .before .before .before .pre .1 .0) (record { wanted-is = c .before .before .before .before .before .before .before .before .before .before .before .before .before .before .before .before .before .before .name-part .ensures; looked-is = c .before .before .before .before .before .before .before .before .before .before .before .before .before .before .find-text .ensures }) (c .before .before .before .before .before .before .before .before .before .before .before .before .before .before .before .before .before .if1 .left) (c .before .before .before .before .before .before .before .before .before .before .before .before .enum-told .given .1) (c .before .before .before .before .before .before .before .before .before .before .before .before .before .before .before .before .before .before .before .before .before .before .before .pre .0) (c .before .before .before .before .before .before .before .before .before .before .before .before .before .before .before .before .bucket .ensures .0) (c .before .before .before .before .before .before .before .before .before .before .put-padding .ensures) (c .before .before .before .before .before .before .put-bytes .ensures) (c .before .before .remember .ensures)
+returns-3 c =
+    let a = c .before .before .before .before .before .before .before .before .before .before .before .before .before .before .before .before .before .before .before .before .before .before .before .args in
+    let pre = c .before .before .before .before .before .before .before .before .before .before .before .before .before .before .before .before .before .before .before .before .before .before .before .pre in
+    let name-part = c .before .before .before .before .before .before .before .before .before .before .before .before .before .before .before .before .before .before .name-part in
+    let find-text = c .before .before .before .before .before .before .before .before .before .before .before .before .before .before .find-text in
+    let if1 = c .before .before .before .before .before .before .before .before .before .before .before .before .before .before .before .before .before .if1 in
+    let enum-told = c .before .before .before .before .before .before .before .before .before .before .before .before .enum-told in
+    let bucket = c .before .before .before .before .before .before .before .before .before .before .before .before .before .before .before .before .bucket in
+    let put-padding = c .before .before .before .before .before .before .before .before .before .before .put-padding in
+    let put-bytes = c .before .before .before .before .before .before .put-bytes in
+    let remember = c .before .before .remember in
+    default-fresh (a .chunk .now) (a .edits .now) (a .default) (a .at) (pre .1 .0) (record { wanted-is = name-part .ensures; looked-is = find-text .ensures }) (if1 .left) (enum-told .given .1) (pre .0) (bucket .ensures .0) (put-padding .ensures) (put-bytes .ensures) (remember .ensures)
 
 pub place-default-spec : {M : Type 1} → statement M
 place-default-spec =

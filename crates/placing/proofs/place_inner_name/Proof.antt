@@ -17,7 +17,9 @@ part-place-name-end c = search needs
 
 place-name-requires : tie.Need-place-name-requires
 unfolding innerPool region
-place-name-requires c κs = (c .before .before .before .before .before .before .pre .0, (inner-open (c .before .before .before .before .before .before .pre .1 .0) (c .before .before .before .before .before .before .pre .1 .1 .0), c .before .before .before .before .before .before .pre .1 .1 .1))
+place-name-requires c κs =
+    let pre = c .before .before .before .before .before .before .pre in
+    (pre .0, (inner-open (pre .1 .0) (pre .1 .1 .0), pre .1 .1 .1))
 
 same-length : tie.Need-same-length
 same-length c = search needs
@@ -27,7 +29,11 @@ same-length-2 c = search needs
 
 returns : tie.Need-returns
 unfolding innerPool region
-returns c = inner-placed (c .before .before .before .before .before .before .before .before .before .before .before .pre .1 .0) (c .before .before .before .before .before .before .before .before .before .before .before .args .name) (c .before .before .before .before .before .before .before .before .before .before .before .args .at) (c .before .before .before .before .before .before .before .before .before .before .before .args .out .now) (c .before .before .before .before .place-name .last .1 .1 .1 .1 .0) (c .before .before .before .before .place-name .result) _ (c .before .before .before .before .place-name .last .1 .1 .1 .0) refl (c .before .before .before .before .place-name .ensures)
+returns c =
+    let pre = c .before .before .before .before .before .before .before .before .before .before .before .pre in
+    let a = c .before .before .before .before .before .before .before .before .before .before .before .args in
+    let place-name = c .before .before .before .before .place-name in
+    inner-placed (pre .1 .0) (a .name) (a .at) (a .out .now) (place-name .last .1 .1 .1 .1 .0) (place-name .result) _ (place-name .last .1 .1 .1 .0) refl (place-name .ensures)
 
 pub place-inner-name-spec : {M : Type 1} → statement M
 place-inner-name-spec =

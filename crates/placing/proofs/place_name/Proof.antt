@@ -32,7 +32,13 @@ same-length : tie.Need-same-length
 same-length c = search needs
 
 returns : tie.Need-returns
-returns c = name-found (c .before .before .before .before .before .before .before .before .before .before .before .args .chunk .now) (c .before .before .before .before .before .before .before .before .before .before .before .args .edits .now) (c .before .before .before .before .before .before .before .before .before .before .before .args .name) (c .before .before .before .before .before .before .before .before .before .before .before .args .at) (c .before .before .before .before .before .before .before .before .before .before .before .pre .1 .0) (record { wanted-is = c .before .before .before .before .before .before .name-part .ensures; looked-is = c .before .before .before .find-text .ensures }) _ (c .before .offset .given .1)
+returns c =
+    let a = c .before .before .before .before .before .before .before .before .before .before .before .args in
+    let pre = c .before .before .before .before .before .before .before .before .before .before .before .pre in
+    let name-part = c .before .before .before .before .before .before .name-part in
+    let find-text = c .before .before .before .find-text in
+    let offset = c .before .offset in
+    name-found (a .chunk .now) (a .edits .now) (a .name) (a .at) (pre .1 .0) (record { wanted-is = name-part .ensures; looked-is = find-text .ensures }) _ (offset .given .1)
 
 same-length-2 : tie.Need-same-length-2
 same-length-2 c = search needs
@@ -41,7 +47,16 @@ same-length-3 : tie.Need-same-length-3
 same-length-3 c = search needs
 
 returns-2 : tie.Need-returns-2
-returns-2 c = name-fresh (c .before .before .before .before .before .before .before .before .before .before .before .before .before .before .before .before .before .before .args .chunk .now) (c .before .before .before .before .before .before .before .before .before .before .before .before .before .before .before .before .before .before .args .edits .now) (c .before .before .before .before .before .before .before .before .before .before .before .before .before .before .before .before .before .before .args .name) (c .before .before .before .before .before .before .before .before .before .before .before .before .before .before .before .before .before .before .args .at) (c .before .before .before .before .before .before .before .before .before .before .before .before .before .before .before .before .before .before .pre .1 .0) (record { wanted-is = c .before .before .before .before .before .before .before .before .before .before .before .before .before .name-part .ensures; looked-is = c .before .before .before .before .before .before .before .before .before .before .find-text .ensures }) (c .before .before .before .before .before .before .before .before .enum-told .given .1) (c .before .before .before .before .before .before .before .before .before .before .before .before .before .before .before .before .before .before .pre .0) (c .before .before .before .before .before .before .before .before .before .before .before .before .bucket .ensures .0) (c .before .before .before .before .before .before .put-name .ensures) (c .before .before .remember .ensures)
+returns-2 c =
+    let a = c .before .before .before .before .before .before .before .before .before .before .before .before .before .before .before .before .before .before .args in
+    let pre = c .before .before .before .before .before .before .before .before .before .before .before .before .before .before .before .before .before .before .pre in
+    let name-part = c .before .before .before .before .before .before .before .before .before .before .before .before .before .name-part in
+    let find-text = c .before .before .before .before .before .before .before .before .before .before .find-text in
+    let enum-told = c .before .before .before .before .before .before .before .before .enum-told in
+    let bucket = c .before .before .before .before .before .before .before .before .before .before .before .before .bucket in
+    let put-name = c .before .before .before .before .before .before .put-name in
+    let remember = c .before .before .remember in
+    name-fresh (a .chunk .now) (a .edits .now) (a .name) (a .at) (pre .1 .0) (record { wanted-is = name-part .ensures; looked-is = find-text .ensures }) (enum-told .given .1) (pre .0) (bucket .ensures .0) (put-name .ensures) (remember .ensures)
 
 pub place-name-spec : {M : Type 1} → statement M
 place-name-spec =

@@ -17,7 +17,9 @@ part-place-default-end c = search needs
 
 place-default-requires : tie.Need-place-default-requires
 unfolding defaultPool region
-place-default-requires c κs = (c .before .before .before .before .before .before .pre .0, (defaults-open (c .before .before .before .before .before .before .pre .1 .0) (c .before .before .before .before .before .before .pre .1 .1 .0), c .before .before .before .before .before .before .pre .1 .1 .1))
+place-default-requires c κs =
+    let pre = c .before .before .before .before .before .before .pre in
+    (pre .0, (defaults-open (pre .1 .0) (pre .1 .1 .0), pre .1 .1 .1))
 
 same-length : tie.Need-same-length
 same-length c = search needs
@@ -27,7 +29,11 @@ same-length-2 c = search needs
 
 returns : tie.Need-returns
 unfolding defaultPool region
-returns c = default-placed (c .before .before .before .before .before .before .before .before .before .before .before .pre .1 .0) (c .before .before .before .before .before .before .before .before .before .before .before .args .default) (c .before .before .before .before .before .before .before .before .before .before .before .args .at) (c .before .before .before .before .before .before .before .before .before .before .before .args .out .now) (c .before .before .before .before .place-default .last .1 .1 .1 .1 .0) (c .before .before .before .before .place-default .result) _ (c .before .before .before .before .place-default .last .1 .1 .1 .0) refl (c .before .before .before .before .place-default .ensures)
+returns c =
+    let pre = c .before .before .before .before .before .before .before .before .before .before .before .pre in
+    let a = c .before .before .before .before .before .before .before .before .before .before .before .args in
+    let place-default = c .before .before .before .before .place-default in
+    default-placed (pre .1 .0) (a .default) (a .at) (a .out .now) (place-default .last .1 .1 .1 .1 .0) (place-default .result) _ (place-default .last .1 .1 .1 .0) refl (place-default .ensures)
 
 pub place-scratch-default-spec : {M : Type 1} → statement M
 place-scratch-default-spec =

@@ -18,7 +18,10 @@ same-length : tie.Need-same-length
 same-length c = search needs
 
 returns : tie.Need-returns
-returns c = put-then (c .before .before .before .before .before .before .put-bytes .ensures) (record { list = c .before .before .store .ensures; next = refl })
+returns c =
+    let put-bytes = c .before .before .before .before .before .before .put-bytes in
+    let store = c .before .before .store in
+    put-then (put-bytes .ensures) (record { list = store .ensures; next = refl })
 
 pub put-name-spec : {M : Type 1} → statement M
 put-name-spec =

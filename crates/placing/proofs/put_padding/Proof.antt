@@ -25,7 +25,10 @@ same-length : tie.Need-same-length
 same-length c = search needs
 
 returns : tie.Need-returns
-returns c = subst (λ bytes. Put (c .before .before .before .before .before .before .before .args .out .now) (c .before .before .before .before .before .before .before .args .at) bytes (c .before .before .put-bytes .last .0) (c .before .before .put-bytes .result)) (padding-bytes (c .before .before .before .before .before .before .before .args .at)) (c .before .before .put-bytes .ensures)
+returns c =
+    let a = c .before .before .before .before .before .before .before .args in
+    let put-bytes = c .before .before .put-bytes in
+    subst (λ bytes. Put (a .out .now) (a .at) bytes (put-bytes .last .0) (put-bytes .result)) (padding-bytes (a .at)) (put-bytes .ensures)
 
 pub put-padding-spec : {M : Type 1} → statement M
 put-padding-spec =

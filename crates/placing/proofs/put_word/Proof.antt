@@ -12,7 +12,11 @@ inside-requires : tie.Need-inside-requires
 inside-requires c κs = search needs
 
 put-word-within-requires : tie.Need-put-word-within-requires
-put-word-within-requires c κs = inside-fits (length (c .before .before .before .before .args .out .now)) (c .before .before .before .before .args .at) 4 (sym (c .before .before .inside .ensures) ∙ c .before .if1 .taken)
+put-word-within-requires c κs =
+    let a = c .before .before .before .before .args in
+    let inside = c .before .before .inside in
+    let if1 = c .before .if1 in
+    inside-fits (length (a .out .now)) (a .at) 4 (sym (inside .ensures) ∙ if1 .taken)
 
 add-result : tie.Need-add-result
 add-result c = search needs
@@ -21,7 +25,10 @@ same-length : tie.Need-same-length
 same-length c = search needs
 
 returns : tie.Need-returns
-returns c = record { list = c .before .before .put-word-within .ensures; next = omega (arith, length-wordBytes (c .before .before .before .before .before .before .before .args .word)) }
+returns c =
+    let put-word-within = c .before .before .put-word-within in
+    let a = c .before .before .before .before .before .before .before .args in
+    record { list = put-word-within .ensures; next = omega (arith, length-wordBytes (a .word)) }
 
 put-word-near-end-requires : tie.Need-put-word-near-end-requires
 put-word-near-end-requires c κs = search needs
@@ -33,7 +40,10 @@ same-length-2 : tie.Need-same-length-2
 same-length-2 c = search needs
 
 returns-2 : tie.Need-returns-2
-returns-2 c = record { list = c .before .before .put-word-near-end .ensures; next = omega (arith, length-wordBytes (c .before .before .before .before .before .before .before .args .word)) }
+returns-2 c =
+    let put-word-near-end = c .before .before .put-word-near-end in
+    let a = c .before .before .before .before .before .before .before .args in
+    record { list = put-word-near-end .ensures; next = omega (arith, length-wordBytes (a .word)) }
 
 pub put-word-spec : {M : Type 1} → statement M
 put-word-spec =

@@ -43,7 +43,13 @@ same-length c = search needs
 
 returns : tie.Need-returns
 unfolding wordBytes
-returns c = four-stores (c .before .before .before .before .before .before .before .before .before .before .before .before .before .before .before .before .before .args .out .now) (c .before .before .before .before .before .before .before .before .before .before .before .before .before .before .before .before .before .args .at) _ _ _ _ (c .before .before .before .before .before .before .before .before .before .before .before .before .before .before .store .ensures) (c .before .before .before .before .before .before .before .before .before .before .store2 .ensures) (c .before .before .before .before .before .before .store3 .ensures) (c .before .before .store4 .ensures)
+returns c =
+    let a = c .before .before .before .before .before .before .before .before .before .before .before .before .before .before .before .before .before .args in
+    let store = c .before .before .before .before .before .before .before .before .before .before .before .before .before .before .store in
+    let store2 = c .before .before .before .before .before .before .before .before .before .before .store2 in
+    let store3 = c .before .before .before .before .before .before .store3 in
+    let store4 = c .before .before .store4 in
+    four-stores (a .out .now) (a .at) _ _ _ _ (store .ensures) (store2 .ensures) (store3 .ensures) (store4 .ensures)
 
 pub put-word-near-end-spec : {M : Type 1} → statement M
 put-word-near-end-spec =

@@ -26,7 +26,10 @@ shared-slice-read-put-word : tie.Need-shared-slice-read-put-word Inv-loop μ-loo
 shared-slice-read-put-word c = omega arith
 
 put-word-requires : tie.Need-put-word-requires Inv-loop μ-loop
-put-word-requires c κs = omega (arith, c .before .before .before .loop .inv .1 .next, length-joined (take (c .before .before .before .loop .i) (c .before .before .before .before .before .before .args .words .now)), length-take-le (c .before .before .before .loop .i) (c .before .before .before .before .before .before .args .words .now) (c .before .before .before .loop .inv .0))
+put-word-requires c κs =
+    let l = c .before .before .before .loop in
+    let a = c .before .before .before .before .before .before .args in
+    omega (arith, l .inv .1 .next, length-joined (take (l .i) (a .words .now)), length-take-le (l .i) (a .words .now) (l .inv .0))
 
 add-i : tie.Need-add-i Inv-loop μ-loop
 add-i c = omega arith
@@ -35,13 +38,22 @@ loop-less : tie.Need-loop-less Inv-loop μ-loop
 loop-less c = omega arith
 
 loop-again : tie.Need-loop-again Inv-loop μ-loop
-loop-again c = (omega arith, rw (joined-take-more (c .before .before .before .before .before .before .before .before .before .args .words .now) (c .before .before .before .before .before .before .loop .i) (omega arith)) (put-then (c .before .before .before .before .before .before .loop .inv .1) (c .before .before .put-word .ensures)))
+loop-again c =
+    let a = c .before .before .before .before .before .before .before .before .before .args in
+    let l = c .before .before .before .before .before .before .loop in
+    let put-word = c .before .before .put-word in
+    (omega arith, rw (joined-take-more (a .words .now) (l .i) (omega arith)) (put-then (l .inv .1) (put-word .ensures)))
 
 same-length : tie.Need-same-length Inv-loop μ-loop
-same-length c = put-length (c .before .loop .inv .1)
+same-length c =
+    let l = c .before .loop in
+    put-length (l .inv .1)
 
 returns : tie.Need-returns Inv-loop μ-loop
-returns c = rw (take-all (c .before .loop .i) (c .before .before .before .before .args .words .now) (omega arith)) at (c .before .loop .inv .1)
+returns c =
+    let l = c .before .loop in
+    let a = c .before .before .before .before .args in
+    rw (take-all (l .i) (a .words .now) (omega arith)) at (l .inv .1)
 
 pub put-words-spec : {M : Type 1} → statement M
 put-words-spec =

@@ -14,10 +14,15 @@ same-length : tie.Need-same-length
 same-length c = search needs
 
 returns : tie.Need-returns
-returns c = sym (splice-one (c .before .args .out .now) (c .before .args .at) (c .before .args .b))
+returns c =
+    let a = c .before .args in
+    sym (splice-one (a .out .now) (a .at) (a .b))
 
 returns-2 : tie.Need-returns-2
-returns-2 c = sym (splice-past-end (c .before .args .out .now) (c .before .args .at) (c .before .args .b ∷ []) (c .if1 .left))
+returns-2 c =
+    let a = c .before .args in
+    let if1 = c .if1 in
+    sym (splice-past-end (a .out .now) (a .at) (a .b ∷ []) (if1 .left))
 
 pub store-spec : {M : Type 1} → statement M
 store-spec = tie.close (tie.spec slice-write-out same-length returns returns-2)
