@@ -32,7 +32,7 @@ fn store(out: &mut [u8], at: usize, b: u8)
     }
 }
 
-// Writes the four bytes of a word, all of which have room. They are one store of the machine.
+// Writes the four bytes of a word, all of which have room: one test of the range serves the four stores.
 fn put_word_within(out: &mut [u8], at: usize, word: u32)
     requires { ⌜ at + 4 ≤ length (now out) ⌝ }
     ensures { λ _. ⌜ now (out .exit) ≡ splice (now (out .entry)) at (wordBytes word) ⌝ }
