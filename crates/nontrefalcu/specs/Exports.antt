@@ -18,6 +18,7 @@ use Rattle.spelling.specs.declared.SpelledType.the-variants.{Understood, Refuse
 use Rattle.spelling.specs.Spelling.{typeName, declaration}
 use Rattle.spelling.specs.Grammar.{parseType, spelledType}
 use Rattle.listing.specs.Listing.{listed}
+use Rattle.refusals.specs.Sentences.{sentence}
 
 -- 0 for a value, else the refusal's number.
 unfoldable pub numberOf : {A : Type 0} → Outcome A → ℕ
@@ -82,3 +83,7 @@ listedInto chunk edits bindings out = fitting (length out) (listed chunk edits (
 -- What a text spells.
 unfoldable pub typeRead : List ℕ → Outcome TypeSpelling
 typeRead text = understood (spelledType (parseType text))
+
+-- The sentence of a refusal's number, for an output as long as this.
+unfoldable pub sentenceInto : ℕ → List ℕ → Outcome (List ℕ)
+sentenceInto number out = fitting (length out) (ok (sentence number))

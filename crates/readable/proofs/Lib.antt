@@ -1,1 +1,10 @@
+pub mod Bools
+pub mod TypeTests
+pub mod Counts
+pub mod Parts
+pub mod Split
+pub mod Answers
+pub mod HeaderTests
+pub mod RecordTests
+pub mod WalkTests
 pub mod ReadableTables

@@ -2,6 +2,7 @@
 mod same;
 mod skip;
 
+pub use same::same_name;
 pub use same::same_type;
 pub use same::same_type_between;
 pub use skip::has_member;

@@ -43,7 +43,7 @@ fn same_numbers(x: TypeDesc, y: TypeDesc) -> bool
 }
 
 // Whether two names have the same bytes.
-fn same_name<'a>(chunk: &'a [u8], edits: &'a [u8], x: Text, y: Text) -> bool
+pub fn same_name<'a>(chunk: &'a [u8], edits: &'a [u8], x: Text, y: Text) -> bool
     ensures { λ r. ⌜ r ≡ sameName (now (chunk .entry)) (now (edits .entry)) x y ⌝ }
 {
     let a = reflection::name_part(chunk, edits, x);

@@ -1,0 +1,41 @@
+// The records of the bindings' table.
+ghost use mathlib.Core.Path.{_≡_};
+ghost use Rattle.readable.specs.Checks.{bindingHeld, bindingsHeld};
+use crate::at_most;
+use crate::both;
+use crate::either;
+use crate::names::name_readable;
+use crate::same;
+use reflection::ResourceBinding;
+
+// Whether a binding is readable: its name, its codes and, where it has no space and id, that they are 0.
+fn binding_readable(chunk: &[u8], edits: &[u8], wide: bool, b: ResourceBinding) -> bool
+    ensures { λ r. ⌜ r ≡ bindingHeld (now (chunk .entry)) (now (edits .entry)) wide b ⌝ }
+{
+    let flags = b.flags;
+    let placed = either(wide, both(same(b.space, 0), same(b.id, 0)));
+    let flagged = both(at_most(flags.0, 0x1f), placed);
+    let coded = both(
+        at_most(b.input_type, 13),
+        both(at_most(b.dimension, 11), flagged),
+    );
+    let name = b.name;
+    both(name_readable(chunk, edits, name), coded)
+}
+
+// Whether the first `count` bindings are readable.
+pub fn bindings_readable(chunk: &[u8], edits: &[u8], wide: bool, table: &[u32], count: u32) -> bool
+    ensures { λ r. ⌜ r ≡ bindingsHeld (now (chunk .entry)) (now (edits .entry)) wide (now (table .entry)) 0 count ⌝ }
+{
+    let mut i: usize = 0;
+    let mut left = count;
+    while 0 < left {
+        let b = reflection::binding_at(table, i);
+        if !binding_readable(chunk, edits, wide, b) {
+            return false;
+        }
+        i += 1;
+        left -= 1;
+    }
+    true
+}

@@ -1,0 +1,2 @@
+mod Beyond
+pub mod Lengths
