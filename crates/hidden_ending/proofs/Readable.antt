@@ -11,17 +11,13 @@ use Rattle.reflection.specs.Nodes.{nodesOf, typeLevels}
 use Rattle.reflection.specs.Tables.{allVariables}
 use Rattle.reflection.specs.Contents.{Bytes, typeNames, variableNames, outerNames, innerNames, defaultsOf}
 use Rattle.readable.specs.Readable.{every, nameReadable, defaultReadable, zeroUnless, versionReadable, bindingReadable, typeReadable, variableReadable, nodeCount, roomKept, readableContents}
+use Rattle.readable.proofs.ReadableTables.{variables-map}
 use Rattle.round_trip.specs.RoundTrip.{AllWords, variableNumbers, bufferNumbers, BuffersWords, NumbersAreWords}
 
--- The variables of what is mapped, and their defaults.
-pub all-variables-map : {N M D E : Type 0} (f : N → M) (g : D → E) (bs : List (CBufferDef N D)) → allVariables (map (mapBuffer f g) bs) ≡ map (mapVariable f g) (allVariables bs)
-unfolding allVariables mapBuffer
-all-variables-map f g [] = refl
-all-variables-map f g (b ∷ bs) = ap (λ (l : List (CBufferVariable _ _)). map (mapVariable f g) (b .variables) ++ l) (all-variables-map f g bs) ∙ sym (map-append (mapVariable f g) (b .variables) (allVariables bs))
-
+-- The defaults of what is mapped.
 pub defaults-map : {N M D E : Type 0} (f : N → M) (g : D → E) (r : ResourceDef N D) → defaultsOf (mapDef f g r) ≡ map g (defaultsOf r)
 unfolding defaultsOf mapDef mapVariable
-defaults-map f g r = ap (map (λ v. v .default-value)) (all-variables-map f g (r .constant-buffers)) ∙ go (allVariables (r .constant-buffers))
+defaults-map f g r = ap (map (λ v. v .default-value)) (variables-map f g (r .constant-buffers)) ∙ go (allVariables (r .constant-buffers))
   where
     go : (vs : List (CBufferVariable _ _)) → map (λ v. v .default-value) (map (mapVariable f g) vs) ≡ map g (map (λ v. v .default-value) vs)
     go [] = refl
@@ -51,7 +47,7 @@ module _ {N M D E : Type 0} (f : N → M) (g g′ : D → E) where
   unfolding innerNames mapDef
   inner-names-same r =
       ap (λ (l : List M). l ++ (f (r .creator) ∷ []))
-      (ap variableNames (all-variables-map f g (r .constant-buffers)) ∙ same-variable-names (allVariables (r .constant-buffers)) ∙ sym (ap variableNames (all-variables-map f g′ (r .constant-buffers))))
+      (ap variableNames (variables-map f g (r .constant-buffers)) ∙ same-variable-names (allVariables (r .constant-buffers)) ∙ sym (ap variableNames (variables-map f g′ (r .constant-buffers))))
 
   room-kept-same : (r : ResourceDef N D) → roomKept (mapDef f g r) ≡ roomKept (mapDef f g′ r)
   unfolding roomKept mapDef
@@ -59,9 +55,9 @@ module _ {N M D E : Type 0} (f : N → M) (g g′ : D → E) where
       let bs = r .constant-buffers in
       let buffers : length (map (mapBuffer f g) bs) ≡ length (map (mapBuffer f g′) bs) = length-map bs (mapBuffer f g) ∙ sym (length-map bs (mapBuffer f g′)) in
       let variables : length (allVariables (map (mapBuffer f g) bs)) ≡ length (allVariables (map (mapBuffer f g′) bs)) =
-      ap length (all-variables-map f g bs) ∙ length-map (allVariables bs) (mapVariable f g) ∙ sym (length-map (allVariables bs) (mapVariable f g′)) ∙ sym (ap length (all-variables-map f g′ bs)) in
+      ap length (variables-map f g bs) ∙ length-map (allVariables bs) (mapVariable f g) ∙ sym (length-map (allVariables bs) (mapVariable f g′)) ∙ sym (ap length (variables-map f g′ bs)) in
       let nodes : nodeCount (allVariables (map (mapBuffer f g) bs)) ≡ nodeCount (allVariables (map (mapBuffer f g′) bs)) =
-      ap nodeCount (all-variables-map f g bs) ∙ same-node-count (allVariables bs) ∙ sym (ap nodeCount (all-variables-map f g′ bs)) in
+      ap nodeCount (variables-map f g bs) ∙ same-node-count (allVariables bs) ∙ sym (ap nodeCount (variables-map f g′ bs)) in
       λ i. leb (length (map (mapBinding f) (r .bindings))) 1024 && (leb (buffers i) 64 && (leb (variables i) 2048 && leb (nodes i) 4096))
 
   -- No number is a default's.
@@ -100,7 +96,7 @@ module _ {N D : Type 0} (f : N → Bytes) (g g′ : D → Bytes) (lengths : (d :
       let bs = r .constant-buffers in
       let sm5 = isSm5 (r .rd11) in
       let variables : every (variableReadable sm5) (allVariables (map (mapBuffer f g) bs)) ≡ every (variableReadable sm5) (allVariables (map (mapBuffer f g′) bs)) =
-      ap (every (variableReadable sm5)) (all-variables-map f g bs) ∙ variables-same sm5 (allVariables bs) ∙ sym (ap (every (variableReadable sm5)) (all-variables-map f g′ bs)) in
+      ap (every (variableReadable sm5)) (variables-map f g bs) ∙ variables-same sm5 (allVariables bs) ∙ sym (ap (every (variableReadable sm5)) (variables-map f g′ bs)) in
       λ i. versionReadable (r .target-version) (r .rd11)
       && (every nameReadable (outer-names-same f g g′ r i)
       && (every nameReadable (inner-names-same f g g′ r i)

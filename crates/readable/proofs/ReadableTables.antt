@@ -22,92 +22,18 @@ use Rattle.reflection.specs.Records.{bindingWidth, bufferWidth, variableWidth, 
 use Rattle.reflection.specs.Tables.{allVariables}
 use Rattle.reflection.specs.Decode.{check, recordsFrom, firstRecords, nodeFrom, variablesFrom, buffersFrom, bufferFrom, bindingFrom, variableFrom, decode}
 use Rattle.reflection.specs.Contents.{Bytes, contents, innerNames, outerNames}
+use Rattle.readable.proofs.Bools.{then-was, check-was}
+use Rattle.readable.proofs.Counts.{length-records, variables-used, buffers-taken}
 use Rattle.readable.specs.Readable.{readable, held, isReadable, readableContents, rd11Absent, textsInPlace, roomKept, nodeCount, every, variableReadable, bindingReadable, nameReadable, versionReadable}
 
--- What a step that gave something was given.
-pub then-was : {A B : Type 0} (m : Option A) (f : A → Option B) (b : B) → (m >>= f) ≡ some b → (a : A) × (m ≡ some a) × (f a ≡ some b)
-unfolding _>>=_
-then-was none f b e = absurd (let apart : _≡_ {A = ℕ} 0 1 = cc in omega arith)
-then-was (some a) f b e = (a, refl, e)
-
-pub check-was : {B : Type 0} (test : Bool) (f : Unit {0} → Option B) (b : B) → (check test >>= f) ≡ some b → (test ≡ true) × (f tt ≡ some b)
-unfolding check _>>=_
-check-was true f b e = (refl, e)
-check-was false f b e = absurd (let apart : _≡_ {A = ℕ} 0 1 = cc in omega arith)
-
+-- What stands in an option.
 pub some-was : {A : Type 0} {a b : A} → some a ≡ some b → a ≡ b
 some-was {a = a} e = ap (λ o. elim o [ none ↦ a | some x ↦ x ]) e
-
-length-records : {A : Type 0} (record-at : ℕ → A) (i n : ℕ) → length (recordsFrom record-at i n) ≡ n
-unfolding recordsFrom
-length-records record-at i zero = refl
-length-records record-at i (suc n) = ap suc (length-records record-at (suc i) n)
 
 -- A type has as many nodes whatever it is a member of.
 any-root : {N : Type 0} (n m : N) (a b : ℕ) (t : TypeDesc N) → length (nodesOf n a t) ≡ length (nodesOf m b t)
 unfolding nodesOf
 any-root n m a b (typeDesc k name ms) = refl
-
--- Building uses up exactly the nodes of what it builds.
-members-used : {N : Type 0} (build : List (Node N) → Option (Built N))
-    → ((xs : List (Node N)) (b : Built N) → build xs ≡ some b → length (nodesOf (b .member-name) 0 (b .type)) + length (b .left) ≡ length xs)
-    → (n : ℕ) (xs : List (Node N)) (r : Members N × List (Node N)) → membersFrom build n xs ≡ some r → length (nodesOfMembers (r .0)) + length (r .1) ≡ length xs
-unfolding membersFrom nodesOfMembers
-members-used build one zero xs r e = ap (λ (q : Members _ × List (Node _)). length (nodesOfMembers (q .0)) + length (q .1)) (sym (some-was e)) ∙ zero-add (length xs)
-members-used build one (suc n) xs r e =
-    let (t, built, e₁) = then-was (build xs) _ r e in
-    let (ms, others, e₂) = then-was (membersFrom build n (t .left)) _ r e₁ in
-    omega (
-      arith,
-      ap (λ (q : Members _ × List (Node _)). length (nodesOfMembers (q .0)) + length (q .1)) (some-was e₂),
-      length-append (nodesOf (t .member-name) (t .member-offset) (t .type)) (nodesOfMembers (ms .0)),
-      any-root (t .member-name) (t .member-name) (t .member-offset) 0 (t .type),
-      one xs t built,
-      members-used build one n (t .left) ms others,
-    )
-
-type-used : {N : Type 0} (levels : ℕ) (xs : List (Node N)) (b : Built N) → typeFrom levels xs ≡ some b
-    → length (nodesOf (b .member-name) 0 (b .type)) + length (b .left) ≡ length xs
-unfolding typeFrom nodesOf
-type-used zero xs b e = absurd (let apart : _≡_ {A = ℕ} 0 1 = cc in omega arith)
-type-used (suc levels) [] b e = absurd (let apart : _≡_ {A = ℕ} 0 1 = cc in omega arith)
-type-used (suc levels) (x ∷ xs) b e =
-    let (ms, built, e₁) = then-was (membersFrom (typeFrom levels) (x .member-count) xs) _ b e in
-    omega (
-      arith,
-      ap (λ (q : Built _). length (nodesOf (q .member-name) 0 (q .type)) + length (q .left)) (some-was e₁),
-      members-used (typeFrom levels) (type-used levels) (x .member-count) xs ms built,
-    )
-
-variables-used : (vs : List VariableRecord) (ns : List (Node Text)) (typed : List (CBufferVariable Text Text)) → variablesFrom vs ns ≡ some typed
-    → (nodeCount typed ≡ length ns) × (length typed ≡ length vs)
-unfolding variablesFrom variableFrom nodeCount
-variables-used [] [] typed e = (ap nodeCount (sym (some-was e)), ap length (sym (some-was e)))
-variables-used [] (n ∷ ns) typed e = absurd (let apart : _≡_ {A = ℕ} 0 1 = cc in omega arith)
-variables-used (v ∷ vs) ns typed e =
-    let (t, built, e₁) = then-was (typeFrom typeLevels ns) _ typed e in
-    let (others, after, e₂) = then-was (variablesFrom vs (t .left)) _ typed e₁ in
-    let (nodes, same) = variables-used vs (t .left) others after in
-    (omega (
-      arith,
-      ap nodeCount (some-was e₂),
-      any-root (v .name) (t .member-name) 0 0 (t .type),
-      type-used typeLevels ns t built,
-      nodes,
-    ),
-    omega (arith, ap length (some-was e₂), same))
-
-buffers-used : (bs : List BufferRecord) (vs : List (CBufferVariable Text Text)) (filled : List (CBufferDef Text Text)) → buffersFrom bs vs ≡ some filled
-    → (allVariables filled ≡ vs) × (length filled ≡ length bs)
-unfolding buffersFrom bufferFrom allVariables
-buffers-used [] [] filled e = (ap allVariables (sym (some-was e)), ap length (sym (some-was e)))
-buffers-used [] (v ∷ vs) filled e = absurd (let apart : _≡_ {A = ℕ} 0 1 = cc in omega arith)
-buffers-used (b ∷ bs) vs filled e =
-    let (long, e₁) = check-was (leb (b .«variable_count») (length vs)) _ filled e in
-    let (others, after, e₂) = then-was (buffersFrom bs (drop (b .«variable_count») vs)) _ filled e₁ in
-    let (rest, same) = buffers-used bs (drop (b .«variable_count») vs) others after in
-    (ap allVariables (sym (some-was e₂)) ∙ ap (λ ws. take (b .«variable_count») vs ++ ws) rest ∙ take-append-drop (b .«variable_count») vs,
-    omega (arith, ap length (some-was e₂), same))
 
 -- Contents count as what they are of.
 module _ {N M D E : Type 0} (f : N → M) (g : D → E) where
@@ -187,14 +113,14 @@ decode-counts h bindings buffers variables types r e =
     let (filled, in-buffers, e₆) = then-was (buffersFrom cs typed) _ r e₅ in
     let is = some-was e₆ in
     let used = variables-used vs (map nodeFrom ts) typed with-types in
-    let all = buffers-used cs typed filled in-buffers in
+    let all = buffers-taken cs typed filled in-buffers in
     record {
       binding-count = ap (λ (q : ResourceDef Text Text). length (q .bindings)) (sym is) ∙ length-map bs bindingFrom ∙ first-was bindingWidth bindingAt bindings _ bs b .1;
-      buffer-count = ap (λ (q : ResourceDef Text Text). length (q .constant-buffers)) (sym is) ∙ all .1 ∙ first-was bufferWidth bufferAt buffers _ cs c .1;
+      buffer-count = ap (λ (q : ResourceDef Text Text). length (q .constant-buffers)) (sym is) ∙ all .buffers ∙ first-was bufferWidth bufferAt buffers _ cs c .1;
       variable-count =
-          ap (λ (q : ResourceDef Text Text). length (allVariables (q .constant-buffers))) (sym is) ∙ ap length (all .0) ∙ used .1 ∙ first-was variableWidth variableAt variables _ vs v .1;
+          ap (λ (q : ResourceDef Text Text). length (allVariables (q .constant-buffers))) (sym is) ∙ ap length (all .variables) ∙ used .variables ∙ first-was variableWidth variableAt variables _ vs v .1;
       type-count =
-          ap (λ (q : ResourceDef Text Text). nodeCount (allVariables (q .constant-buffers))) (sym is) ∙ ap nodeCount (all .0) ∙ used .0 ∙ length-map ts nodeFrom
+          ap (λ (q : ResourceDef Text Text). nodeCount (allVariables (q .constant-buffers))) (sym is) ∙ ap nodeCount (all .variables) ∙ used .nodes ∙ length-map ts nodeFrom
           ∙ first-was typeWidth typeAt types _ ts t .1;
       bindings-inside = first-was bindingWidth bindingAt bindings _ bs b .0;
       buffers-inside = first-was bufferWidth bufferAt buffers _ cs c .0;

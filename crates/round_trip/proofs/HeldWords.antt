@@ -20,7 +20,8 @@ use Rattle.reflection.specs.Decode.{check, recordsFrom, firstRecords, nodeFrom,
 use Rattle.reflection.specs.Texts.{textBytes}
 use Rattle.reflection.specs.Contents.{Bytes, contents}
 use Rattle.readable.specs.Readable.{held, rd11Absent, textsInPlace}
-use Rattle.readable.proofs.ReadableTables.{then-was, check-was, some-was}
+use Rattle.readable.proofs.Bools.{then-was, check-was}
+use Rattle.readable.proofs.ReadableTables.{some-was}
 use Rattle.round_trip.specs.RoundTrip.{typeNumbers, memberNumbers, variableNumbers, bindingNumbers, bufferNumbers, Words, AllWords, BuffersWords, NumbersAreWords}
 use Rattle.round_trip.proofs.Lists.{All}
 
