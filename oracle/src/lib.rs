@@ -1,7 +1,8 @@
 //! The reading of RDEF chunks, three times: the Rust that is ported (`rdef`, unchanged), a plain reader
 //! written from document 01 (`model`), and the port itself where its library is linked (`port`).
 //! `words` and `model` give the same words, so that all three can be compared word for word.
-//! `spelling` has the same three for spelling types and listing bindings.
+//! `spelling` has the same three for spelling types and listing bindings; `writing` holds the canonical form
+//! to rdef.rs.
 
 // What rdef.rs expects of the crate around it.
 extern crate alloc;
@@ -18,9 +19,11 @@ include!(concat!(env!("OUT_DIR"), "/rdef_module.rs"));
 pub mod arguments;
 pub mod check;
 pub mod generate;
+pub mod guarded;
 pub mod model;
 pub mod port;
 pub mod spelling;
 pub mod tables;
 pub mod utf8;
 pub mod words;
+pub mod writing;

@@ -64,6 +64,43 @@ pub fn holds(table: &[u32], all: &[u8], at: usize, n: usize) -> bool {
     n <= table.len()
 }
 
+// Sets every word of the table to that of the file, from `at` on.
+pub fn copy_words(table: &mut [u32], all: &[u8], at: usize) {
+    let mut from = at;
+    for i in 0..table.len() {
+        table[i] = words::word_at(all, from);
+        from = words_on(all, from, 1);
+    }
+}
+
+// Sets every word to `w`.
+pub fn fill_words(table: &mut [u32], w: u32) {
+    for i in 0..table.len() {
+        table[i] = w;
+    }
+}
+
+// Sets every byte to `b`.
+pub fn fill(out: &mut [u8], b: u8) {
+    for i in 0..out.len() {
+        out[i] = b;
+    }
+}
+
+// Whether the output begins with `text`, and has nothing but `rest` after it.
+pub fn leaves(out: &[u8], text: &[u8], rest: u8) -> bool {
+    for i in 0..out.len() {
+        let mut want = rest;
+        if i < text.len() {
+            want = text[i];
+        }
+        if out[i] != want {
+            return false;
+        }
+    }
+    text.len() <= out.len()
+}
+
 pub fn both(a: bool, b: bool) -> bool {
     if a { b } else { false }
 }

@@ -1,6 +1,6 @@
 -- What decoding builds has as many nodes, variables and buffers as there were records, since it uses each record once; and the names stay what they were.
 use mathlib.Core.Path.{_≡_, refl, sym, ap, _∙_}
-use mathlib.Core.List.{List, [], _∷_, _++_, map}
+use mathlib.Core.List.{List, [], _∷_, _++_, map, map-append}
 use mathlib.Core.Option.{some}
 use Prim.Native.Nat.{ℕ, zero, suc, _+_}
 use native.Mathlib.Omega.{arith}
@@ -10,7 +10,7 @@ use Rattle.reflection.specs.declared.Text.{Text}
 use Rattle.reflection.specs.declared.CBufferDef.{CBufferDef as BufferRecord}
 use Rattle.reflection.specs.declared.CBufferVariable.{CBufferVariable as VariableRecord}
 use Rattle.reflection.specs.Reflection.{TypeDesc, typeDesc, Members, noMember, member, CBufferVariable, CBufferDef, mapType, mapMembers, mapVariable, mapBuffer}
-use Rattle.reflection.specs.Nodes.{Node, Built, nodesOf, nodesOfMembers, _>>=_, membersFrom, typeFrom, typeLevels}
+use Rattle.reflection.specs.Nodes.{Node, Built, nodesOf, nodesOfMembers, membersFrom, typeFrom, typeLevels}
 use Rattle.reflection.specs.Tables.{allVariables}
 use Rattle.reflection.specs.Decode.{recordsFrom, variableFrom, bufferFrom, variablesFrom, buffersFrom}
 use Rattle.readable.specs.Readable.{nodeCount}
@@ -141,11 +141,7 @@ module _ {N M : Type 0} (f : N → M) where
     map-node-count [] = refl
     map-node-count (v ∷ vs) = omega (arith, map-nodes (v .var-type) (v .name) (f (v .name)) 0 0, map-node-count vs)
 
-    map-over : (xs ys : List (CBufferVariable N D)) → map (mapVariable f g) (xs ++ ys) ≡ map (mapVariable f g) xs ++ map (mapVariable f g) ys
-    map-over [] ys = refl
-    map-over (x ∷ xs) ys = ap (λ zs. mapVariable f g x ∷ zs) (map-over xs ys)
-
-    pub map-variables : (bs : List (CBufferDef N D)) → allVariables (map (mapBuffer f g) bs) ≡ map (mapVariable f g) (allVariables bs)
+    pub variables-map : (bs : List (CBufferDef N D)) → allVariables (map (mapBuffer f g) bs) ≡ map (mapVariable f g) (allVariables bs)
     unfolding allVariables mapBuffer
-    map-variables [] = refl
-    map-variables (b ∷ bs) = ap (λ vs. map (mapVariable f g) (b .variables) ++ vs) (map-variables bs) ∙ sym (map-over (b .variables) (allVariables bs))
+    variables-map [] = refl
+    variables-map (b ∷ bs) = ap (λ vs. map (mapVariable f g) (b .variables) ++ vs) (variables-map bs) ∙ sym (map-append (mapVariable f g) (b .variables) (allVariables bs))

@@ -1,14 +1,14 @@
 -- What the definitions say of a header of major 4, and of one of another major: each law is one case of its major version.
-use mathlib.Core.Path.{_≡_, refl, sym, ap, _∙_}
+use mathlib.Core.Path.{_≡_, sym, ap, _∙_}
 use mathlib.Core.Bool.{Bool, true, false, _&&_, _||_, not, and-true}
-use mathlib.Core.List.{List, [], _∷_}
+use mathlib.Core.List.{[], _∷_}
 use Prim.Native.Nat.{ℕ, _≤_, _<_, _/_}
 use native.Mathlib.Decide.{ℕ-discrete}
 use borrow.Author.Tests.{eq-eqb, ne-eqb, le-leb, lt-leb}
 use lib.Dec.{eqb, leb}
 use lib.ListN.{length}
 use Rattle.reflection.specs.declared.ResourceDef.{ResourceDef as Header}
-use Rattle.reflection.specs.Reflection.{Rd11, noRd11, rd11, majorOf, isSm5, isWide}
+use Rattle.reflection.specs.Reflection.{noRd11, rd11, majorOf, isSm5, isWide}
 use Rattle.reflection.specs.Decode.{rd11From}
 use Rattle.reflection.specs.Contents.{Bytes}
 use Rattle.readable.specs.Readable.{every, zeroUnless, versionReadable, rd11Absent}

@@ -8,3 +8,7 @@ pub mod HeaderTests
 pub mod RecordTests
 pub mod WalkTests
 pub mod ReadableTables
+pub mod Leaves
+pub mod ReadTypes
+pub mod ReadTables
+pub mod Reading

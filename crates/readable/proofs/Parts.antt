@@ -4,7 +4,6 @@ use mathlib.Core.Path.{_≡_, refl, sym, ap, _∙_}
 use mathlib.Core.Bool.{Bool, true, false, _&&_, _||_, and-true, and-assoc}
 use mathlib.Core.List.{List, [], _∷_, _++_, map}
 use mathlib.Core.Option.{Option, some}
-use Prim.Native.Nat.{ℕ}
 use lib.Dec.{eqb, leb, eqb·suc-zero}
 use lib.ListN.{length, drop, length-map, length-drop}
 use Rattle.reflection.specs.declared.Text.{Text}
@@ -20,7 +19,7 @@ use Rattle.readable.specs.Readable.{every, nameReadable, defaultReadable
 use Rattle.readable.specs.Checks.{holds, nameHeld, defaultHeld, buffersTake, variableHeld, variablesTake}
 use Rattle.readable.proofs.Bools.{tests-in-order, holds-check, holds-and, holds-same, holds-then, every-append, every-map, every-both}
 use Rattle.readable.proofs.TypeTests.{typeHeld, passed, type-held, type-left, length-held}
-use Rattle.readable.proofs.Counts.{map-node-count, map-variables}
+use Rattle.readable.proofs.Counts.{map-node-count, variables-map}
 
 -- The tests of a variable by its contents, and of its names and default in their buffers, taken together for each of its parts.
 of-variable : (place tplaces places dplace dplaces read treads reads dread dread′ slots tread others type all : Bool)
@@ -171,7 +170,7 @@ module _ (chunk edits : Bytes) where
   room-kept : (r : ResourceDef Text Text) → roomKept (contents chunk edits r) ≡ roomKept r
   unfolding roomKept contents mapDef
   room-kept r =
-      let variables : allVariables (map (mapBuffer bytes bytes) (r .constant-buffers)) ≡ map (mapVariable bytes bytes) (allVariables (r .constant-buffers)) = map-variables bytes bytes (r .constant-buffers) in
+      let variables : allVariables (map (mapBuffer bytes bytes) (r .constant-buffers)) ≡ map (mapVariable bytes bytes) (allVariables (r .constant-buffers)) = variables-map bytes bytes (r .constant-buffers) in
       let counted : length (allVariables (map (mapBuffer bytes bytes) (r .constant-buffers))) ≡ length (allVariables (r .constant-buffers)) = ap length variables ∙ length-map (allVariables (r .constant-buffers)) (mapVariable bytes bytes) in
       let nodes : nodeCount (allVariables (map (mapBuffer bytes bytes) (r .constant-buffers))) ≡ nodeCount (allVariables (r .constant-buffers)) = ap nodeCount variables ∙ map-node-count bytes bytes (allVariables (r .constant-buffers)) in
       (λ i. leb (length-map (r .bindings) (mapBinding bytes) i) 1024 && (leb (length-map (r .constant-buffers) (mapBuffer bytes bytes) i) 64 && (leb (counted i) 2048 && leb (nodes i) 4096)))
@@ -190,8 +189,8 @@ module _ (chunk edits : Bytes) where
       && (every-append (inPlace chunk edits) (variableNames vs) (r .creator ∷ []) i && every (inPlace chunk edits) (map (λ v. v .default-value) vs)))
       && (versionReadable (r .target-version) (r .rd11)
       && (every nameReadable (binding-names bs i ++ buffer-names cs i)
-      && (every nameReadable (variableNames (map-variables bytes bytes cs i) ++ (bytes (r .creator) ∷ []))
-      && (binding-codes wide bs i && (every (variableReadable sm5) (map-variables bytes bytes cs i) && room-kept r i))))))
+      && (every nameReadable (variableNames (variables-map bytes bytes cs i) ++ (bytes (r .creator) ∷ []))
+      && (binding-codes wide bs i && (every (variableReadable sm5) (variables-map bytes bytes cs i) && room-kept r i))))))
       ∙ (λ i. ((every (inPlace chunk edits) bnames && every (inPlace chunk edits) cnames)
       && ((every (inPlace chunk edits) (variableNames vs) && (inPlace chunk edits (r .creator) && true)) && every (inPlace chunk edits) (map (λ v. v .default-value) vs)))
       && (versionReadable (r .target-version) (r .rd11)

@@ -1,70 +1,31 @@
 -- What a readable reflection's tables hold: the reflection that they decode to, whose contents are readable, and counts and lengths within document 01's room.
 -- Each step of `held` gave something; decoding keeps the counts, since every record, variable and node that is counted is used.
 use mathlib.Core.Path.{_≡_, refl, sym, ap, _∙_}
-use mathlib.Core.Bool.{Bool, true, false, _&&_}
-use mathlib.Core.List.{List, [], _∷_, _++_, map, map-append}
+use mathlib.Core.Bool.{true, _&&_}
+use mathlib.Core.List.{List, map}
 use mathlib.Core.Option.{Option, none, some}
-use Prim.Native.Nat.{ℕ, zero, suc, _+_, _/_, _≤_}
-use native.Mathlib.Nat.{zero-add}
+use Prim.Native.Nat.{ℕ, _/_, _≤_}
 use native.Mathlib.Omega.{arith}
 use borrow.Author.Tests.{leb-true}
 use lib.Dec.{leb}
-use lib.ListN.{length, take, drop, length-append, length-map, take-append-drop}
+use lib.ListN.{length, length-map}
 use Rattle.text.proofs.Bools.{and-true}
 use Rattle.reflection.specs.declared.Text.{Text}
 use Rattle.reflection.specs.declared.ResourceDef.{ResourceDef as Header}
-use Rattle.reflection.specs.declared.CBufferDef.{CBufferDef as BufferRecord}
-use Rattle.reflection.specs.declared.CBufferVariable.{CBufferVariable as VariableRecord}
 use Rattle.reflection.specs.Texts.{textBytes}
-use Rattle.reflection.specs.Reflection.{mapBinding, TypeDesc, typeDesc, Members, noMember, member, memberCount, mapType, mapMembers, CBufferVariable, mapVariable, CBufferDef, mapBuffer, ResourceDef, mapDef, isSm5, isWide}
-use Rattle.reflection.specs.Nodes.{Node, nodesOf, nodesOfMembers, Built, _>>=_, membersFrom, typeFrom, typeLevels}
+use Rattle.reflection.specs.Reflection.{mapBinding, mapVariable, mapBuffer, ResourceDef, mapDef, isSm5, isWide}
 use Rattle.reflection.specs.Records.{bindingWidth, bufferWidth, variableWidth, typeWidth, typeAt, variableAt, bufferAt, bindingAt}
 use Rattle.reflection.specs.Tables.{allVariables}
-use Rattle.reflection.specs.Decode.{check, recordsFrom, firstRecords, nodeFrom, variablesFrom, buffersFrom, bufferFrom, bindingFrom, variableFrom, decode}
+use Rattle.reflection.specs.Decode.{firstRecords, nodeFrom, variablesFrom, buffersFrom, bindingFrom, decode}
 use Rattle.reflection.specs.Contents.{Bytes, contents, innerNames, outerNames}
-use Rattle.readable.proofs.Bools.{then-was, check-was}
-use Rattle.readable.proofs.Counts.{length-records, variables-used, buffers-taken}
 use Rattle.readable.specs.Readable.{readable, held, isReadable, readableContents, rd11Absent, textsInPlace, roomKept, nodeCount, every, variableReadable, bindingReadable, nameReadable, versionReadable}
+use Rattle.readable.proofs.Bools.{then-was, check-was}
+use Rattle.readable.proofs.Counts.{length-records, variables-used, buffers-taken, map-node-count}
+pub use Rattle.readable.proofs.Counts.{variables-map}
 
 -- What stands in an option.
 pub some-was : {A : Type 0} {a b : A} → some a ≡ some b → a ≡ b
 some-was {a = a} e = ap (λ o. elim o [ none ↦ a | some x ↦ x ]) e
-
--- A type has as many nodes whatever it is a member of.
-any-root : {N : Type 0} (n m : N) (a b : ℕ) (t : TypeDesc N) → length (nodesOf n a t) ≡ length (nodesOf m b t)
-unfolding nodesOf
-any-root n m a b (typeDesc k name ms) = refl
-
--- Contents count as what they are of.
-module _ {N M D E : Type 0} (f : N → M) (g : D → E) where
-  mutual
-    unfolding nodesOf mapType
-
-    same-nodes : (n : N) (m : M) (t : TypeDesc N) → length (nodesOf m 0 (mapType f t)) ≡ length (nodesOf n 0 t)
-    same-nodes n m (typeDesc k name ms) = ap suc (same-member-nodes ms)
-
-    same-member-nodes : (ms : Members N) → length (nodesOfMembers (mapMembers f ms)) ≡ length (nodesOfMembers ms)
-    same-member-nodes noMember = refl
-    same-member-nodes (member n o t ms) =
-        omega (
-          arith,
-          length-append (nodesOf (f n) o (mapType f t)) (nodesOfMembers (mapMembers f ms)),
-          length-append (nodesOf n o t) (nodesOfMembers ms),
-          any-root (f n) (f n) o 0 (mapType f t),
-          any-root n n o 0 t,
-          same-nodes n (f n) t,
-          same-member-nodes ms,
-        )
-
-  same-node-count : (vs : List (CBufferVariable N D)) → nodeCount (map (mapVariable f g) vs) ≡ nodeCount vs
-  unfolding nodeCount mapVariable
-  same-node-count [] = refl
-  same-node-count (v ∷ vs) = omega (arith, same-nodes (v .name) (f (v .name)) (v .var-type), same-node-count vs)
-
-  pub variables-map : (bs : List (CBufferDef N D)) → allVariables (map (mapBuffer f g) bs) ≡ map (mapVariable f g) (allVariables bs)
-  unfolding allVariables mapBuffer
-  variables-map [] = refl
-  variables-map (b ∷ bs) = ap (λ ws. map (mapVariable f g) (b .variables) ++ ws) (variables-map bs) ∙ sym (map-append (mapVariable f g) (b .variables) (allVariables bs))
 
 -- What the tables of a readable reflection hold, and how much.
 pub record Readable (chunk edits : Bytes) (h : Header) (bindings buffers variables types : List ℕ) : Type 0 where
@@ -165,7 +126,7 @@ contents-room chunk edits r e =
       bindings = omega (arith, leb-true nb 1024 b, length-map (r .bindings) (mapBinding f));
       buffers = omega (arith, leb-true nf 64 c, length-map (r .constant-buffers) (mapBuffer f f));
       variables = omega (arith, leb-true nv 2048 v, ap length all, length-map vs (mapVariable f f));
-      types = omega (arith, leb-true nt 4096 t, ap nodeCount all, same-node-count f f vs);
+      types = omega (arith, leb-true nt 4096 t, ap nodeCount all, map-node-count f f vs);
     }
 
 module _ (chunk edits : Bytes) (h : Header) (bindings buffers variables types : List ℕ) where

@@ -18,7 +18,7 @@ use Rattle.reflection.specs.declared.TypeDesc.{TypeDesc as TypeRecord}
 use Rattle.reflection.specs.Records.{bindingAt, bufferAt}
 use Rattle.reflection.specs.Decode.{recordsFrom, bindingFrom, nodeFrom}
 use Rattle.reflection.specs.Contents.{Bytes}
-use Rattle.reflection.specs.Texts.{inPlace, textBytes}
+use Rattle.reflection.specs.Texts.{textBytes}
 use Rattle.reflection.proofs.Texts.{place-in-chunk, place-in-edits, place-nowhere, bytes-in-chunk, bytes-in-edits}
 use Rattle.readable.specs.Readable.{every, nameReadable, zeroUnless, bindingReadable, numbersReadable}
 use Rattle.readable.specs.Checks.{nameHeld, defaultHeld, bindingHeld, bindingsHeld, buffersTake, buffersHeld, variableHeld, nodeHeld}

@@ -1,6 +1,6 @@
 -- Readable is what the functions of this crate test: a test that comes after a step of decoding may come before it, and the tests of what was decoded are
 -- those of its parts, since decoding uses each record once.
-use mathlib.Core.Path.{_≡_, refl, sym, ap, _∙_}
+use mathlib.Core.Path.{_≡_, refl, ap, _∙_}
 use mathlib.Core.Bool.{Bool, _&&_}
 use mathlib.Core.List.{List, map}
 use mathlib.Core.Option.{Option, none, some}
@@ -15,14 +15,13 @@ use Rattle.reflection.specs.declared.CBufferVariable.{CBufferVariable as Variab
 use Rattle.reflection.specs.Reflection.{CBufferVariable, CBufferDef, ResourceDef, isSm5, isWide}
 use Rattle.reflection.specs.Nodes.{Node, _>>=_}
 use Rattle.reflection.specs.Records.{bindingWidth, bufferWidth, variableWidth, typeWidth, bindingAt, bufferAt, variableAt, typeAt}
-use Rattle.reflection.specs.Tables.{allVariables}
-use Rattle.reflection.specs.Decode.{check, recordsFrom, firstRecords, bindingFrom, nodeFrom, variablesFrom, buffersFrom, rd11From, decode}
-use Rattle.reflection.specs.Contents.{Bytes, contents}
+use Rattle.reflection.specs.Decode.{recordsFrom, firstRecords, bindingFrom, nodeFrom, variablesFrom, buffersFrom, rd11From, decode}
+use Rattle.reflection.specs.Contents.{Bytes}
 use Rattle.readable.specs.Readable.{every, versionReadable, nodeCount, roomKept, readableContents, rd11Absent, textsInPlace, held, isReadable, readable}
 use Rattle.readable.specs.Checks.{holds, nameHeld, countHeld, countsHeld, headerHeld, bindingHeld, bindingsHeld, buffersTake, buffersHeld, variablesTake, nodesFrom, variablesHeld, recordsHeld}
 use Rattle.readable.proofs.Bools.{tests-in-order, holds-check, holds-and, holds-same, holds-then, every-map}
 use Rattle.readable.proofs.Counts.{AllUsed, AllTaken, length-records, variables-used, buffers-taken}
-use Rattle.readable.proofs.Parts.{buffers-take, typedHeld, variables-take, bindingTests, tests, testsByPart, tests-by-part}
+use Rattle.readable.proofs.Parts.{buffers-take, typedHeld, variables-take, bindingTests, tests, tests-by-part}
 
 is-holds : (o : Option (ResourceDef Bytes Bytes)) → isReadable o ≡ holds readableContents o
 is-holds none = refl

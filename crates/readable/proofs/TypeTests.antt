@@ -2,15 +2,14 @@
 -- readable by its contents. By induction on the levels, and on the members of each type.
 use mathlib.Core.Path.{_≡_, refl, sym, ap, _∙_}
 use mathlib.Core.Bool.{Bool, true, false, _&&_, _||_, not, true-and, and-false}
-use mathlib.Core.List.{List, [], _∷_, _++_}
+use mathlib.Core.List.{List, [], _∷_}
 use mathlib.Core.Option.{Option, none, some}
-use Prim.Native.Nat.{ℕ, zero, suc, _+_}
-use native.Mathlib.Omega.{arith}
-use lib.Dec.{eqb, leb}
-use lib.ListN.{length, length-append}
+use Prim.Native.Nat.{ℕ, zero, suc}
+use lib.Dec.{leb}
+use lib.ListN.{length}
 use Rattle.reflection.specs.declared.Text.{Text}
 use Rattle.reflection.specs.Reflection.{TypeDesc, typeDesc, Members, noMember, member, memberCount, mapType, mapMembers}
-use Rattle.reflection.specs.Nodes.{Node, Built, nodesOf, nodesOfMembers, _>>=_, membersFrom, typeFrom}
+use Rattle.reflection.specs.Nodes.{Node, Built, _>>=_, membersFrom, typeFrom}
 use Rattle.reflection.specs.Decode.{check}
 use Rattle.reflection.specs.Texts.{inPlace, textBytes}
 use Rattle.reflection.proofs.Texts.{length-bytes}

@@ -47,7 +47,7 @@ abbrev NodeWords : Node Text → Type 0
 NodeWords x =
     (x .numbers .extra0 < 4294967296) × ((x .numbers .extra1 < 4294967296) × ((x .numbers .extra2 < 4294967296) × ((x .numbers .extra3 < 4294967296) × (x .member-offset < 4294967296))))
 
-words-append : (xs ys : List ℕ) → Words xs → Words ys → Words (xs ++ ys)
+pub words-append : (xs ys : List ℕ) → Words xs → Words ys → Words (xs ++ ys)
 unfolding Words
 words-append [] ys p q = q
 words-append (x ∷ xs) ys p q = (p .0, words-append xs ys (p .1) q)
@@ -97,9 +97,10 @@ variables-words (v ∷ vs) ns typed all nodes e =
     let (others, after, e₂) = then-was (variablesFrom vs (t .left)) _ typed e₁ in
     let one = type-words typeLevels ns t nodes built in
     let own = all .0 in
-    subst (AllWords variableNumbers) (some-was e₂)
-    ((own .0, (own .1 .0, (own .1 .1 .0, (own .1 .1 .1 .0, (own .1 .1 .1 .1 .0, (own .1 .1 .1 .1 .1 .0, (own .1 .1 .1 .1 .1 .1 .0, one .type-words))))))),
-    variables-words vs (t .left) others (all .1) (one .left-words) after)
+    subst (AllWords variableNumbers) (some-was e₂) (
+      (own .0, (own .1 .0, (own .1 .1 .0, (own .1 .1 .1 .0, (own .1 .1 .1 .1 .0, (own .1 .1 .1 .1 .1 .0, (own .1 .1 .1 .1 .1 .1 .0, one .type-words))))))),
+      variables-words vs (t .left) others (all .1) (one .left-words) after,
+    )
 
 words-take : (n : ℕ) (vs : List (CBufferVariable Text Text)) → AllWords variableNumbers vs → AllWords variableNumbers (take n vs)
 unfolding AllWords
@@ -175,15 +176,15 @@ decode-words h bindings buffers variables types header b f v t r e =
     let variable : (i k : ℕ) → recordWord variableWidth variables i k < 4294967296 = record-word variableWidth variables v in
     let node : (i k : ℕ) → recordWord typeWidth types i k < 4294967296 = record-word typeWidth types t in
     let all-vs = first-records VariableWords variableWidth variableAt variables (h .«variable_count») vs
-        (λ i. (variable i 3, (variable i 4, (variable i 5, (variable i 9, (variable i 10, (variable i 11, (variable i 12, tt)))))))) some-vs in
+    (λ i. (variable i 3, (variable i 4, (variable i 5, (variable i 9, (variable i 10, (variable i 11, (variable i 12, tt)))))))) some-vs in
     let all-ts = first-records (λ (x : TypeRecord). NodeWords (nodeFrom x)) typeWidth typeAt types (h .«type_count») ts
-        (λ i. (node i 6, (node i 7, (node i 8, (node i 9, node i 16))))) some-ts in
+    (λ i. (node i 6, (node i 7, (node i 8, (node i 9, node i 16))))) some-ts in
     let all-cs = first-records (λ (x : BufferRecord). Words (x .size ∷ x .flags ∷ x .«cb_type» ∷ [])) bufferWidth bufferAt buffers (h .«buffer_count») cs
-        (λ i. (buffer i 4, (buffer i 5, (buffer i 6, tt)))) some-cs in
+    (λ i. (buffer i 4, (buffer i 5, (buffer i 6, tt)))) some-cs in
     let all-bs = first-records
-        (λ (x : BindingRecord). Words (x .«input_type» ∷ x .«return_type» ∷ x .dimension ∷ x .«num_samples» ∷ x .«bind_point» ∷ x .«bind_count» ∷ x .flags .0 ∷ x .space ∷ x .id ∷ []))
-        bindingWidth bindingAt bindings (h .«binding_count») bs
-        (λ i. (binding i 3, (binding i 4, (binding i 5, (binding i 6, (binding i 7, (binding i 8, (binding i 9, (binding i 10, (binding i 11, tt)))))))))) some-bs in
+    (λ (x : BindingRecord). Words (x .«input_type» ∷ x .«return_type» ∷ x .dimension ∷ x .«num_samples» ∷ x .«bind_point» ∷ x .«bind_count» ∷ x .flags .0 ∷ x .space ∷ x .id ∷ []))
+    bindingWidth bindingAt bindings (h .«binding_count») bs
+    (λ i. (binding i 3, (binding i 4, (binding i 5, (binding i 6, (binding i 7, (binding i 8, (binding i 9, (binding i 10, (binding i 11, tt)))))))))) some-bs in
     subst NumbersAreWords (some-was e₆)
     (record {
       header = rd11-words h header;
@@ -206,9 +207,10 @@ module _ {N M D E : Type 0} (f : N → M) (g : D → E) where
   same-variables : (vs : List (CBufferVariable N D)) → AllWords variableNumbers vs → AllWords variableNumbers (map (mapVariable f g) vs)
   unfolding AllWords variableNumbers mapVariable
   same-variables [] all = tt
-  same-variables (v ∷ vs) all =
-      (subst (λ (ns : List ℕ). Words (v .offset ∷ v .size ∷ v .flags ∷ v .texture-start ∷ v .texture-size ∷ v .sampler-start ∷ v .sampler-size ∷ ns)) (sym (same-type-numbers (v .var-type))) (all .0),
-      same-variables vs (all .1))
+  same-variables (v ∷ vs) all = (
+    subst (λ (ns : List ℕ). Words (v .offset ∷ v .size ∷ v .flags ∷ v .texture-start ∷ v .texture-size ∷ v .sampler-start ∷ v .sampler-size ∷ ns)) (sym (same-type-numbers (v .var-type))) (all .0),
+    same-variables vs (all .1),
+  )
 
   same-buffers : (bs : List (CBufferDef N D)) → BuffersWords bs → BuffersWords (map (mapBuffer f g) bs)
   unfolding BuffersWords bufferNumbers mapBuffer

@@ -17,3 +17,4 @@ pub mod Header
 pub mod RoundTrip
 pub mod Instance
 pub mod HeldWords
+pub mod ReadWords

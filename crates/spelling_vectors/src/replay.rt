@@ -2,7 +2,9 @@
 use cases_file::BEYOND;
 use cases_file::both;
 use cases_file::bytes_on;
+use cases_file::fill;
 use cases_file::holds;
+use cases_file::leaves;
 use cases_file::words_on;
 
 // The query's kind, the port's answer, whether all of it is as stored, and where the next case begins: past the file's end where this is no case.
@@ -50,27 +52,6 @@ fn words_at(all: &[u8], at: usize) -> [u32; 17] {
         from = words_on(all, from, 1);
     }
     words
-}
-
-// Sets every byte to `b`.
-fn fill(out: &mut [u8], b: u8) {
-    for i in 0..out.len() {
-        out[i] = b;
-    }
-}
-
-// Whether the output begins with `text`, and has nothing but `rest` after it.
-fn leaves(out: &[u8], text: &[u8], rest: u8) -> bool {
-    for i in 0..out.len() {
-        let mut want = rest;
-        if i < text.len() {
-            want = text[i];
-        }
-        if out[i] != want {
-            return false;
-        }
-    }
-    text.len() <= out.len()
 }
 
 // The port's answer: `words` begin with a type node or a binding, `more` with a variable. What lies past a record is not read.

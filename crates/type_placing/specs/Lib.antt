@@ -1,1 +1,4 @@
 pub mod Trees
+pub mod Writing
+pub mod Room
+pub mod TypePlaced

@@ -5,10 +5,7 @@ use super::port::Entries;
 use super::rust::Rust;
 use super::{Answer, Case, Query, Speller, KINDS, NUMBERS};
 use crate::generate::rng::Rng;
-use std::fmt::Debug;
-
-/// Cells on both sides of a lent slice that must stay as they are.
-const GUARD: usize = 8;
+use crate::guarded::Guarded;
 
 pub struct Checker {
     entries: Entries,
@@ -49,7 +46,7 @@ impl Checker {
         let edits = Guarded::bytes(&buffers.edits, rng);
         let words: Vec<Guarded<u32>> = records.iter().map(|record| Guarded::new(record, rng.word(), 0)).collect();
         let (garbage, old) = (rng.between(1, 255) as u8, rng.word() | 1);
-        let mut out = Guarded::new(&vec![garbage; case.room], garbage, rng.below(8));
+        let mut out = Guarded::filled(case.room, garbage, rng.below(8));
         let mut length = Guarded::new(&[old], old, 0);
 
         let (lent_chunk, lent_edits, first) = (chunk.lent(), edits.lent(), words[0].lent());
@@ -61,16 +58,14 @@ impl Checker {
         };
 
         ensure(given == expected.number, || format!("answer {given}, not {}", expected.number))?;
-        chunk.holds("chunk", &buffers.chunk)?;
-        edits.holds("edits", &buffers.edits)?;
+        chunk.holds("chunk", &buffers.chunk, 0)?;
+        edits.holds("edits", &buffers.edits, 0)?;
         for (lent, record) in words.iter().zip(records) {
-            lent.holds("record", record)?;
+            lent.holds("record", record, 0)?;
         }
-        length.holds("length", &[expected.text.len() as u32])?;
+        length.holds("length", &[expected.text.len() as u32], 0)?;
         // A refusal leaves zeros, a text leaves the bytes behind it.
-        let mut wanted = vec![if given == 0 { garbage } else { 0 }; case.room];
-        wanted[..expected.text.len()].copy_from_slice(&expected.text);
-        out.holds("output", &wanted)
+        out.holds("output", &expected.text, if given == 0 { garbage } else { 0 })
     }
 
     fn parse(&self, text: &[u8], expected: &Answer, rng: &mut Rng) -> Result<(), String> {
@@ -79,8 +74,8 @@ impl Checker {
         let mut numbers = Guarded::new(&[old; 5], old, 0);
         let given = (self.entries.parse_type)(lent.lent(), numbers.lent_mut());
         ensure(given == expected.number, || format!("answer {given}, not {}", expected.number))?;
-        lent.holds("text", text)?;
-        numbers.holds("numbers", &expected.numbers)
+        lent.holds("text", text, 0)?;
+        numbers.holds("numbers", &expected.numbers, 0)
     }
 
     /// A line for each kind with its counts, then how many were compared and how many differ.
@@ -112,47 +107,5 @@ fn ensure(holds: bool, what: impl FnOnce() -> String) -> Result<(), String> {
         Ok(())
     } else {
         Err(what())
-    }
-}
-
-/// A lent slice between guard cells.
-struct Guarded<T> {
-    cells: Vec<T>,
-    start: usize,
-    length: usize,
-    guard: T,
-}
-
-impl Guarded<u8> {
-    /// At any address, between bytes that would end a text or carry it on, if they were read.
-    fn bytes(bytes: &[u8], rng: &mut Rng) -> Guarded<u8> {
-        Guarded::new(bytes, rng.pick(&[0, b'4', b']', b'a', 0xbf, 0xff]), rng.below(8))
-    }
-}
-
-impl<T: Copy + PartialEq + Debug> Guarded<T> {
-    fn new(content: &[T], guard: T, shift: usize) -> Guarded<T> {
-        let (start, length) = (GUARD + shift, content.len());
-        let mut cells = vec![guard; start + length + GUARD];
-        cells[start..start + length].copy_from_slice(content);
-        Guarded { cells, start, length, guard }
-    }
-
-    fn lent(&self) -> &[T] {
-        &self.cells[self.start..self.start + self.length]
-    }
-
-    fn lent_mut(&mut self) -> &mut [T] {
-        &mut self.cells[self.start..self.start + self.length]
-    }
-
-    /// These cells, and the guards as they were.
-    fn holds(&self, name: &str, wanted: &[T]) -> Result<(), String> {
-        if let Some(index) = (0..self.length).find(|&index| self.lent()[index] != wanted[index]) {
-            return Err(format!("{name}: cell {index} is {:x?}, not {:x?}", self.lent()[index], wanted[index]));
-        }
-        let (before, after) = (&self.cells[..self.start], &self.cells[self.start + self.length..]);
-        let kept = before.iter().chain(after).all(|&cell| cell == self.guard);
-        ensure(kept, || format!("{name}: written outside"))
     }
 }

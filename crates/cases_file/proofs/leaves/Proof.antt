@@ -3,8 +3,8 @@ use borrow.Author.Needs.{needs}
 use mathlib.Core.Path.{_≡_}
 use Prim.Native.Nat.{_-_}
 use lib.ListN.{length}
-use Rattle.spelling_vectors.proofs.replay.leaves.Statement.{statement}
-use Rattle.spelling_vectors.proofs.replay.leaves.Tie as tie
+use Rattle.cases_file.proofs.leaves.Statement.{statement}
+use Rattle.cases_file.proofs.leaves.Tie as tie
 
 abbrev Inv-loop : tie.InvT-loop
 Inv-loop out text rest i₀ i-end i = i-end ≡ length out

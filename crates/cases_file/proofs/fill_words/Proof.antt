@@ -1,22 +1,25 @@
--- `fill` is safe and ends: each turn goes to the next byte.
+-- `fill_words` is safe and ends: each turn goes to the next word.
 use borrow.Author.Needs.{needs}
 use mathlib.Core.Path.{_≡_}
 use Prim.Native.Nat.{_-_}
 use lib.ListN.{length}
-use Rattle.spelling_vectors.proofs.replay.fill.Statement.{statement}
-use Rattle.spelling_vectors.proofs.replay.fill.Tie as tie
+use Rattle.cases_file.proofs.fill_words.Statement.{statement}
+use Rattle.cases_file.proofs.fill_words.Tie as tie
 
 abbrev Inv-loop : tie.InvT-loop
-Inv-loop out₀ b i₀ i-end out i = length out ≡ i-end
+Inv-loop table₀ w i₀ i-end table i = length table ≡ i-end
 
 abbrev μ-loop : tie.MeasureT-loop
-μ-loop out₀ b i₀ i-end out i = i-end - i
+μ-loop table₀ w i₀ i-end table i = i-end - i
 
 loop-holds : tie.Need-loop-holds Inv-loop μ-loop
 loop-holds c = search needs
 
-slice-write-out : tie.Need-slice-write-out Inv-loop μ-loop
-slice-write-out c = search needs
+mul-table : tie.Need-mul-table Inv-loop μ-loop
+mul-table c = search needs
+
+slice-write-table : tie.Need-slice-write-table Inv-loop μ-loop
+slice-write-table c = search needs
 
 add-i : tie.Need-add-i Inv-loop μ-loop
 add-i c = search needs
@@ -33,14 +36,15 @@ same-length c = search needs
 returns : tie.Need-returns Inv-loop μ-loop
 returns c = search needs
 
-pub fill-spec : {M : Type 1} → statement M
-fill-spec =
+pub fill-words-spec : {M : Type 1} → statement M
+fill-words-spec =
     tie.close
     (tie.spec
     Inv-loop
     μ-loop
     loop-holds
-    slice-write-out
+    mul-table
+    slice-write-table
     add-i
     loop-less
     loop-again

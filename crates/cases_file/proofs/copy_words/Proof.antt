@@ -1,0 +1,60 @@
+-- `copy_words` is safe and ends: each turn goes to the next word.
+use borrow.Author.Needs.{needs}
+use mathlib.Core.Path.{_≡_}
+use Prim.Native.Nat.{_-_}
+use lib.ListN.{length}
+use Rattle.cases_file.proofs.copy_words.Statement.{statement}
+use Rattle.cases_file.proofs.copy_words.Tie as tie
+
+abbrev Inv-loop : tie.InvT-loop
+Inv-loop table₀ all at from₀ i₀ i-end table from i = length table ≡ i-end
+
+abbrev μ-loop : tie.MeasureT-loop
+μ-loop table₀ all at from₀ i₀ i-end table from i = i-end - i
+
+loop-holds : tie.Need-loop-holds Inv-loop μ-loop
+loop-holds c = search needs
+
+word-at-requires : tie.Need-word-at-requires Inv-loop μ-loop
+word-at-requires c κs = search needs
+
+mul-table : tie.Need-mul-table Inv-loop μ-loop
+mul-table c = search needs
+
+slice-write-table : tie.Need-slice-write-table Inv-loop μ-loop
+slice-write-table c = search needs
+
+words-on-requires : tie.Need-words-on-requires Inv-loop μ-loop
+words-on-requires c κs = search needs
+
+add-i : tie.Need-add-i Inv-loop μ-loop
+add-i c = search needs
+
+loop-less : tie.Need-loop-less Inv-loop μ-loop
+loop-less c = search needs
+
+loop-again : tie.Need-loop-again Inv-loop μ-loop
+loop-again c = search needs
+
+same-length : tie.Need-same-length Inv-loop μ-loop
+same-length c = search needs
+
+returns : tie.Need-returns Inv-loop μ-loop
+returns c = search needs
+
+pub copy-words-spec : {M : Type 1} → statement M
+copy-words-spec =
+    tie.close
+    (tie.spec
+    Inv-loop
+    μ-loop
+    loop-holds
+    word-at-requires
+    mul-table
+    slice-write-table
+    words-on-requires
+    add-i
+    loop-less
+    loop-again
+    same-length
+    returns)

@@ -1,0 +1,66 @@
+-- A type is placed: where its pool has an equal one nothing is written, else it is written and, if it may be shared, remembered.
+use mathlib.Core.Path.{_≡_, refl, sym, ap, _∙_}
+use mathlib.Core.Bool.{Bool, true, false, _&&_}
+use mathlib.Core.List.{List}
+use mathlib.Core.Option.{Option, none, some, Option·none-ne-some}
+use Prim.Native.Nat.{ℕ}
+use lib.Dec.{eqb}
+use Rattle.reflection.specs.declared.Text.{Text}
+use Rattle.reflection.specs.Reflection.{TypeDesc, typeDesc}
+use Rattle.writing.specs.Step.{Pools, Step, find, once, addType}
+use Rattle.writing.specs.Same.{sameType}
+use Rattle.writing.specs.Canonical.{bytesOracle, through}
+use Rattle.writing.specs.Layout.{placeType}
+use Rattle.placing.specs.Ran.{textOracle, Ran}
+use Rattle.placing.specs.Scratch.{typesFrom}
+use Rattle.placing.proofs.Runs.{ran-bind, ran-once-found, ran-once-fresh, ran-once-unshared, ran-remember-if-shared, ran-remember-if-unshared}
+use Rattle.type_equality.specs.Trees.{nodeAt, typeTree}
+use Rattle.type_equality.specs.Same.{sameName}
+use Rattle.type_equality.proofs.Trees.{type-is}
+use Rattle.type_placing.specs.Writing.{writeTree, onlyIf}
+use Rattle.type_placing.specs.TypePlaced.{typeOffset, sharedOffset}
+
+module _ (chunk edits : List ℕ) where
+  once-found : (shared : Bool) (look : Pools Text Text → Option ℕ) (m : Step Text Text ℕ) (offset at : ℕ) (ps : Pools Text Text) (out : List ℕ)
+      → onlyIf shared (look ps) ≡ some offset → Ran chunk edits (once shared look m) at ps out out offset at ps
+  once-found true look m offset at ps out e = ran-once-found chunk edits look m offset at ps out e
+  once-found false look m offset at ps out e = absurd (Option·none-ne-some offset e)
+
+  once-fresh : (shared : Bool) (look : Pools Text Text → Option ℕ) {m : Step Text Text ℕ} {at to offset : ℕ} {ps ps′ : Pools Text Text} {out out′ : List ℕ}
+      → onlyIf shared (look ps) ≡ none → Ran chunk edits m at ps out out′ offset to ps′ → Ran chunk edits (once shared look m) at ps out out′ offset to ps′
+  once-fresh true look e p = ran-once-fresh chunk edits look e p
+  once-fresh false look e p = ran-once-unshared chunk edits false look refl p
+
+  -- What is looked up for a type among others.
+  abbrev pub looked : Bool → TypeDesc Text → List (TypeDesc Text × ℕ) → Option ℕ
+  looked share (typeDesc k n ms) types = onlyIf (share && eqb (k .elements) 0) (find (sameType (textOracle chunk edits .same-name) (typeDesc k n ms)) types)
+
+  pub type-found : (sm5 share : Bool) (t : TypeDesc Text) {offset at : ℕ} {ps : Pools Text Text} {out : List ℕ} → looked share t (ps .types) ≡ some offset
+      → Ran chunk edits (placeType (textOracle chunk edits) sm5 share t) at ps out out offset at ps
+  unfolding placeType
+  type-found sm5 share (typeDesc k n ms) {offset} {at} {ps} {out} e = once-found (share && eqb (k .elements) 0) _ _ offset at ps out e
+
+  pub type-fresh-shared : (sm5 share : Bool) (t : TypeDesc Text) {offset at to : ℕ} {ps ps′ : Pools Text Text} {out out′ : List ℕ} → looked share t (ps .types) ≡ none
+      → share ≡ true → Ran chunk edits (writeTree (textOracle chunk edits) sm5 t) at ps out out′ offset to ps′
+      → Ran chunk edits (placeType (textOracle chunk edits) sm5 share t) at ps out out′ offset to (addType t offset ps′)
+  unfolding placeType writeTree
+  type-fresh-shared sm5 share (typeDesc k n ms) {offset} {at} {to} {ps} {ps′} {out} {out′} e shared written =
+      once-fresh (share && eqb (k .elements) 0) _ e
+      (ran-bind chunk edits _ written (ran-remember-if-shared chunk edits share (addType (typeDesc k n ms)) offset to ps′ out′ shared))
+
+  pub type-fresh-unshared : (sm5 share : Bool) (t : TypeDesc Text) {offset at to : ℕ} {ps ps′ : Pools Text Text} {out out′ : List ℕ} → looked share t (ps .types) ≡ none
+      → share ≡ false → Ran chunk edits (writeTree (textOracle chunk edits) sm5 t) at ps out out′ offset to ps′
+      → Ran chunk edits (placeType (textOracle chunk edits) sm5 share t) at ps out out′ offset to ps′
+  unfolding placeType writeTree
+  type-fresh-unshared sm5 share (typeDesc k n ms) {offset} {at} {to} {ps} {ps′} {out} {out′} e unshared written =
+      once-fresh (share && eqb (k .elements) 0) _ e
+      (ran-bind chunk edits _ written (ran-remember-if-unshared chunk edits share (addType (typeDesc k n ms)) offset to ps′ out′ unshared))
+
+  -- What the code looks up is what the definition does.
+  pub looked-is : (share : Bool) (types : List ℕ) (levels k : ℕ) (s : List ℕ) (start base n : ℕ)
+      → looked share (typeTree types levels k) (typesFrom (typeTree types levels) start s base n) ≡ sharedOffset share chunk edits types levels k s start base n
+  unfolding sharedOffset typeOffset sameName textOracle through bytesOracle
+  looked-is share types levels k s start base n =
+      ap (λ (t : TypeDesc Text). looked share t (typesFrom (typeTree types levels) start s base n)) (type-is types levels k)
+      ∙ ap (λ (t : TypeDesc Text). onlyIf (share && eqb (nodeAt types k .numbers .elements) 0)
+      (find (sameType (textOracle chunk edits .same-name) t) (typesFrom (typeTree types levels) start s base n))) (sym (type-is types levels k))

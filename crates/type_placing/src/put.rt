@@ -1,0 +1,85 @@
+// Writes the end of a type: its members' records and its descriptor.
+ghost use mathlib.Core.Path.{_≡_};
+ghost use Prim.Native.Nat.{_≤_};
+ghost use lib.ListN.{length};
+ghost use Rattle.words.specs.Words.{wordBytes};
+ghost use Rattle.words.specs.Splice.{Put};
+ghost use Rattle.reflection.specs.Decode.{nodeFrom};
+ghost use Rattle.writing.specs.Records.{halves, typeWords};
+ghost use Rattle.placing.specs.Bytes.{joinedBytes};
+ghost use Rattle.placing.specs.Pooling.{farthestOffset};
+ghost use Rattle.type_placing.specs.TypePlaced.{RecordsPut, TypePut};
+use placing::Spot;
+use reflection::TypeDesc;
+
+// Two numbers in a word, the first in the lower half. Where one is larger than a half, the sum is cut to a word, as its four bytes are.
+fn two_halves(low: u32, high: u32) -> u32
+    ensures { λ r. ⌜ wordBytes r ≡ wordBytes (halves low high) ⌝ }
+{
+    let sum = low as u64 + (high as u64) * 65536;
+    (sum % 4294967296) as u32
+}
+
+// Writes the members' records, after padding; nothing, and offset 0, where there are none.
+fn put_records(out: &mut [u8], at: usize, records: &[u32]) -> Spot
+    requires { ⌜ (at ≤ farthestOffset) × (length (now records) ≤ 12288) ⌝ }
+    ensures { λ r. ⌜ RecordsPut (now (records .entry)) at (now (out .entry)) (now (out .exit)) r ⌝ }
+{
+    if records.len() == 0 {
+        return Spot { offset: 0, at: at };
+    }
+    let start = placing::put_padding(out, at);
+    let end = placing::put_words(out, start, records);
+    Spot {
+        offset: start as u32,
+        at: end,
+    }
+}
+
+// Writes a type descriptor; the answer is the cursor after it.
+fn put_descriptor(
+    out: &mut [u8],
+    at: usize,
+    node: TypeDesc,
+    count: u32,
+    members: u32,
+    name: u32,
+    sm5: bool,
+) -> usize
+    requires { ⌜ at ≤ 4294967296 ⌝ }
+    ensures { λ r. ⌜ Put (now (out .entry)) at (joinedBytes (typeWords sm5 (nodeFrom node .numbers) count members name)) (now (out .exit)) r ⌝ }
+{
+    let kind = two_halves(node.class, node.var_type);
+    let shape = two_halves(node.rows, node.columns);
+    let counts = two_halves(node.elements, count);
+    let short = [kind, shape, counts, members];
+    let to = placing::put_words(out, at, &short);
+    if sm5 {
+        let long = [node.extra0, node.extra1, node.extra2, node.extra3, name];
+        return placing::put_words(out, to, &long);
+    }
+    to
+}
+
+// Writes the records of a type's members and its descriptor.
+pub fn put_type(
+    out: &mut [u8],
+    at: usize,
+    records: &[u32],
+    node: TypeDesc,
+    name: u32,
+    sm5: bool,
+) -> Spot
+    requires { ⌜ (at ≤ farthestOffset) × (length (now records) ≤ 12288) ⌝ }
+    ensures { λ r. ⌜ TypePut sm5 (nodeFrom node .numbers) name (now (records .entry)) at (now (out .entry)) (now (out .exit)) r ⌝ }
+{
+    let count = records.len() / 3;
+    let members = put_records(out, at, records);
+    let offset = members.offset;
+    let start = placing::put_padding(out, members.at);
+    let end = put_descriptor(out, start, node, count as u32, offset, name, sm5);
+    Spot {
+        offset: start as u32,
+        at: end,
+    }
+}

@@ -1,0 +1,125 @@
+//! Holds a writer with lent scratch and output to rdef.rs and to the model of readable, to the last byte.
+
+use super::evenings::alike;
+use super::port::{Lent, Writer};
+use super::{write, Case, NUMBERS};
+use crate::generate::rng::Rng;
+use crate::guarded::Guarded;
+
+pub struct Checker {
+    writer: Writer,
+    /// How many answers there were with each of `NUMBERS`.
+    pub counts: [u64; 4],
+    pub compared: u64,
+    /// Pairs of evenings, and how many of them were written.
+    pub pairs: u64,
+    pub written_pairs: u64,
+    pub different: u64,
+    /// The first difference, in words.
+    pub first: Option<String>,
+}
+
+impl Checker {
+    pub fn new(writer: Writer) -> Checker {
+        Checker { writer, counts: [0; 4], compared: 0, pairs: 0, written_pairs: 0, different: 0, first: None }
+    }
+
+    /// Writes the case and counts the answer, and a difference if there is one. The answer is the writer's.
+    pub fn compare(&mut self, name: &str, case: &Case, rng: &mut Rng) -> Option<Result<Vec<u8>, u32>> {
+        let expected = write(case);
+        self.compared += 1;
+        self.counts[place(expected.as_ref().err().copied().unwrap_or(0))] += 1;
+        match self.one(case, &expected, rng) {
+            Ok(given) => Some(given),
+            Err(what) => {
+                self.differs(|| format!("{name}: {what}\n{case}\nby rdef.rs: {}", super::show::outcome(&expected)));
+                None
+            }
+        }
+    }
+
+    /// Two evenings, with equal room: both are compared, and what is written must be alike but for the
+    /// bytes of the defaults.
+    pub fn compare_pair(&mut self, name: &str, pair: [&Case; 2], rng: &mut Rng) {
+        let [a, b] = pair.map(|case| self.compare(name, case, rng));
+        self.pairs += 1;
+        let (Some(a), Some(b)) = (a, b) else {
+            return;
+        };
+        let outcome = match (a, b) {
+            (Err(a), Err(b)) if a == b => Ok(()),
+            (Ok(a), Ok(b)) => {
+                self.written_pairs += 1;
+                alike([&pair[0].held, &pair[1].held], [&a, &b])
+            }
+            _ => Err("one evening is written or refused otherwise than the other".to_string()),
+        };
+        if let Err(what) = outcome {
+            self.differs(|| format!("{name}: {what}\none evening: {}\nthe other: {}", pair[0], pair[1]));
+        }
+    }
+
+    fn differs(&mut self, what: impl FnOnce() -> String) {
+        self.different += 1;
+        self.first.get_or_insert_with(what);
+    }
+
+    fn one(&self, case: &Case, expected: &Result<Vec<u8>, u32>, rng: &mut Rng) -> Result<Result<Vec<u8>, u32>, String> {
+        let words = &case.held.words;
+        let chunk = Guarded::bytes(&case.held.chunk, rng);
+        let edits = Guarded::bytes(&case.held.edits, rng);
+        let header = Guarded::new(&words.header, rng.word(), 0);
+        let tables = words.tables().map(|table| Guarded::new(table, rng.word(), rng.below(4)));
+        let (garbage, old) = (rng.between(1, 255) as u8, rng.word() | 1);
+        let mut scratch = Guarded::filled(case.scratch, old, rng.below(4));
+        let mut out = Guarded::filled(case.room, garbage, rng.below(8));
+        let mut length = Guarded::filled(rng.between(1, 3), old, 0);
+
+        let lent = Lent {
+            chunk: chunk.lent(),
+            edits: edits.lent(),
+            header: header.lent(),
+            tables: tables.each_ref().map(|table| table.lent()),
+        };
+        let given = (self.writer)(&lent, scratch.lent_mut(), out.lent_mut(), length.lent_mut());
+
+        chunk.holds("chunk", &case.held.chunk, 0)?;
+        edits.holds("edits", &case.held.edits, 0)?;
+        header.holds("header", &words.header, 0)?;
+        for (name, (table, words)) in TABLES.iter().zip(tables.iter().zip(words.tables())) {
+            table.holds(name, words, 0)?;
+        }
+        let number = expected.as_ref().err().copied().unwrap_or(0);
+        if given != number {
+            return Err(format!("answer {given}, not {number}"));
+        }
+        // Scratch is zero after every answer; a refusal leaves zeros, a written form the bytes behind it.
+        scratch.holds("scratch", &[], 0)?;
+        let bytes = expected.as_ref().map_or(&[][..], |bytes| bytes);
+        length.holds("length", &[bytes.len() as u32], 0)?;
+        out.holds("output", bytes, if given == 0 { garbage } else { 0 })?;
+        Ok(if given == 0 { Ok(out.lent()[..length.lent()[0] as usize].to_vec()) } else { Err(given) })
+    }
+
+    /// The counts, then how many were compared and how many differ.
+    pub fn report(&self) -> String {
+        let pairs = format!("{} pairs of evenings, {} of them written\n", self.pairs, self.written_pairs);
+        counts_lines(&self.counts) + &pairs + &format!("{} compared, {} different", self.compared, self.different)
+    }
+}
+
+const TABLES: [&str; 4] = ["bindings", "buffers", "variables", "types"];
+
+/// How many were written, how many refused with each number.
+pub fn counts_lines(counts: &[u64; 4]) -> String {
+    let mut lines = format!("written {}\n", counts[0]);
+    for (number, count) in NUMBERS.iter().zip(counts).skip(1) {
+        lines += &format!("refused {number} {count}\n");
+    }
+    lines
+}
+
+/// The place in `NUMBERS`.
+pub fn place(number: u32) -> usize {
+    NUMBERS.iter().position(|&known| known == number).expect("0, 15, 16 or 17")
+}
