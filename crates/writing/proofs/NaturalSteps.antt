@@ -35,7 +35,7 @@ find-map test h (e ∷ es) = ap (hit (test (h (e .0))) (e .1)) (find-map test h 
 mutual
   unfolding sameType mapType
 
-  same-type-map : {N M : Type 0} (f : N → M) (same : M → M → Bool) (s t : TypeDesc N) → sameType same (mapType f s) (mapType f t) ≡ sameType (λ n m. same (f n) (f m)) s t
+  pub same-type-map : {N M : Type 0} (f : N → M) (same : M → M → Bool) (s t : TypeDesc N) → sameType same (mapType f s) (mapType f t) ≡ sameType (λ n m. same (f n) (f m)) s t
   same-type-map f same (typeDesc k n ms) (typeDesc k′ n′ ms′) = ap (λ (b : Bool). sameBytes (numbersOf k) (numbersOf k′) && (same (f n) (f n′) && b)) (same-members-map f same ms ms′)
 
   same-members-map : {N M : Type 0} (f : N → M) (same : M → M → Bool) (ms ns : Members N) → sameMembers same (mapMembers f ms) (mapMembers f ns) ≡ sameMembers (λ n m. same (f n) (f m)) ms ns

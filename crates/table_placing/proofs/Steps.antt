@@ -1,0 +1,93 @@
+-- From names, types and defaults to the whole chunk: what the code has to hand over for a variable, a section, the buffers and the chunk, and that it is then a
+-- run of that step. Each follows the definition step by step.
+use mathlib.Core.Path.{_≡_, refl}
+use mathlib.Core.Bool.{Bool}
+use mathlib.Core.List.{List, [], _∷_, map}
+use Prim.Native.Nat.{ℕ, _+_, _*_}
+use lib.Dec.{eqb}
+use lib.ListN.{length, replicate}
+use Rattle.words.specs.Splice.{Put}
+use Rattle.reflection.specs.declared.Text.{Text}
+use Rattle.reflection.specs.Reflection.{CBufferVariable, CBufferDef, ResourceDef, isSm5, isWide}
+use Rattle.writing.specs.Step.{Pools, pools, paddingAt}
+use Rattle.writing.specs.Records.{VariableOffsets, Section, rows, variableWords, variableSize, bufferWords, bindingWords, bindingSize, headerWords, headerSize}
+use Rattle.writing.specs.Layout.{zip, placeOuterName, placeInnerName, placeDefault, placeType, placeVariable, placeVariables, placeSection, placeSections, placeOuterNames, placeBufferParts, placeBuffers, placeBody, placeChunk, layout}
+use Rattle.placing.specs.Ran.{Ran, textOracle, cellBytes}
+use Rattle.placing.specs.Bytes.{joinedBytes}
+use Rattle.placing.proofs.Runs.{ran-bind, ran-return, ran-pad}
+use Rattle.placing.proofs.Ahead.{ran-ahead}
+use Rattle.table_placing.proofs.Many.{Each}
+
+pub each-outer-name : (chunk edits : List ℕ) → Each (placeOuterNames (textOracle chunk edits)) (placeOuterName (textOracle chunk edits))
+unfolding placeOuterNames
+each-outer-name chunk edits = record { of-none = refl; of-more = λ x xs. refl }
+
+module _ (chunk edits : List ℕ) (sm5 : Bool) where
+  -- The steps that are done for each of a list.
+  pub each-variable : (share : Bool) → Each (placeVariables (textOracle chunk edits) sm5 share) (placeVariable (textOracle chunk edits) sm5 share)
+  unfolding placeVariables
+  each-variable share = record { of-none = refl; of-more = λ x xs. refl }
+
+  pub each-section : Each (placeSections (textOracle chunk edits) sm5) (placeSection (textOracle chunk edits) sm5)
+  unfolding placeSections
+  each-section = record { of-none = refl; of-more = λ x xs. refl }
+
+  -- A variable: its name, its type, its default.
+  pub ran-variable : (share : Bool) (x : CBufferVariable Text Text) {at at₁ at₂ at₃ name type default : ℕ} {ps ps₁ ps₂ ps₃ : Pools Text Text} {out out₁ out₂ out₃ : List ℕ}
+      → Ran chunk edits (placeInnerName (textOracle chunk edits) (x .name)) at ps out out₁ name at₁ ps₁
+      → Ran chunk edits (placeType (textOracle chunk edits) sm5 share (x .var-type)) at₁ ps₁ out₁ out₂ type at₂ ps₂
+      → Ran chunk edits (placeDefault (textOracle chunk edits) (x .default-value)) at₂ ps₂ out₂ out₃ default at₃ ps₃
+      → Ran chunk edits (placeVariable (textOracle chunk edits) sm5 share x) at ps out out₃ (record { name = name; type = type; default = default }) at₃ ps₃
+  unfolding placeVariable
+  ran-variable share x p q r = ran-bind chunk edits _ p (ran-bind chunk edits _ q (ran-bind chunk edits _ r (ran-return chunk edits _ _ _ _)))
+
+  -- A section: padding, the variables from behind the room for their records, and the records into the room.
+  pub ran-section : (b : CBufferDef Text Text) {at start to end : ℕ} {ps ps′ : Pools Text Text} {out out₁ out₂ out₃ : List ℕ} {os : List VariableOffsets}
+      → Put out at (replicate (paddingAt at) 0xab) out₁ start
+      → length (rows (variableWords sm5) (b .variables) os) ≡ length (b .variables) * variableSize sm5
+      → Ran chunk edits (placeVariables (textOracle chunk edits) sm5 (eqb (b .cb-type) 0) (b .variables)) (start + 4 * (length (b .variables) * variableSize sm5)) ps out₁ out₂ os to ps′
+      → Put out₂ start (joinedBytes (rows (variableWords sm5) (b .variables) os)) out₃ end
+      → Ran chunk edits (placeSection (textOracle chunk edits) sm5 b) at ps out out₃ (record { start = start; offsets = os }) to ps′
+  unfolding placeSection
+  ran-section b padded long placed written =
+      ran-bind chunk edits _ (ran-pad chunk edits padded)
+      (ran-bind chunk edits _ (ran-ahead chunk edits (length (b .variables) * variableSize sm5) (rows (variableWords sm5) (b .variables)) long placed written) (ran-return chunk edits _ _ _ _))
+
+  pub ran-no-buffers : (at : ℕ) (ps : Pools Text Text) (out : List ℕ) → Ran chunk edits (placeBuffers (textOracle chunk edits) sm5 []) at ps out out (0, []) at ps
+  unfolding placeBuffers
+  ran-no-buffers at ps out = ran-return chunk edits (0, []) at ps out
+
+  -- The buffers: padding, their names and sections from behind the room for their records, and the records into the room.
+  pub ran-buffers : (b : CBufferDef Text Text) (bs : List (CBufferDef Text Text)) {at start mid to end : ℕ} {ps ps₁ ps₂ : Pools Text Text} {out out₁ out₂ out₃ out₄ names : List ℕ} {sections : List Section}
+      → Put out at (replicate (paddingAt at) 0xab) out₁ start
+      → length (rows bufferWords (b ∷ bs) (zip names sections)) ≡ length (b ∷ bs) * 6
+      → Ran chunk edits (placeOuterNames (textOracle chunk edits) (map (λ b. b .name) (b ∷ bs))) (start + 4 * (length (b ∷ bs) * 6)) ps out₁ out₂ names mid ps₁
+      → Ran chunk edits (placeSections (textOracle chunk edits) sm5 (b ∷ bs)) mid ps₁ out₂ out₃ sections to ps₂
+      → Put out₃ start (joinedBytes (rows bufferWords (b ∷ bs) (zip names sections))) out₄ end
+      → Ran chunk edits (placeBuffers (textOracle chunk edits) sm5 (b ∷ bs)) at ps out out₄ (start, zip names sections) to ps₂
+  unfolding placeBuffers placeBufferParts
+  ran-buffers b bs padded long named placed written =
+      ran-bind chunk edits _ (ran-pad chunk edits padded)
+      (ran-bind chunk edits _ (ran-ahead chunk edits (length (b ∷ bs) * 6) (rows bufferWords (b ∷ bs)) long (ran-bind chunk edits _ named (ran-bind chunk edits _ placed (ran-return chunk edits _ _ _ _))) written)
+      (ran-return chunk edits _ _ _ _))
+
+-- The chunk: the bindings' names from behind the room for the header and the bindings' records, those records into their room, the buffers, the creator, padding,
+-- and the header into its room.
+pub ran-chunk : (chunk edits : List ℕ) (r : ResourceDef Text Text) {at₁ at₂ at₃ at₄ creator e₁ e₂ : ℕ} {ps₁ ps₂ ps₃ : Pools Text Text} {out out₁ out₂ out₃ out₄ out₅ out₆ names : List ℕ} {buffers : ℕ × List (ℕ × Section)}
+    → length (rows (bindingWords (isWide (r .rd11))) (r .bindings) names) ≡ length (r .bindings) * bindingSize (isWide (r .rd11))
+    → length (headerWords r (record { buffers = buffers .0; sections = buffers .1; creator = creator })) ≡ headerSize (isSm5 (r .rd11))
+    → Ran chunk edits (placeOuterNames (textOracle chunk edits) (map (λ b. b .name) (r .bindings)))
+    (0 + 4 * headerSize (isSm5 (r .rd11)) + 4 * (length (r .bindings) * bindingSize (isWide (r .rd11)))) (pools [] [] [] [] []) out out₁ names at₁ ps₁
+    → Put out₁ (0 + 4 * headerSize (isSm5 (r .rd11))) (joinedBytes (rows (bindingWords (isWide (r .rd11))) (r .bindings) names)) out₂ e₁
+    → Ran chunk edits (placeBuffers (textOracle chunk edits) (isSm5 (r .rd11)) (r .constant-buffers)) at₁ ps₁ out₂ out₃ buffers at₂ ps₂
+    → Ran chunk edits (placeInnerName (textOracle chunk edits) (r .creator)) at₂ ps₂ out₃ out₄ creator at₃ ps₃
+    → Put out₄ at₃ (replicate (paddingAt at₃) 0xab) out₅ at₄
+    → Put out₅ 0 (joinedBytes (headerWords r (record { buffers = buffers .0; sections = buffers .1; creator = creator }))) out₆ e₂
+    → Put out 0 (cellBytes chunk edits (layout (textOracle chunk edits) r .cells)) out₆ at₄
+unfolding layout placeChunk placeBody
+ran-chunk chunk edits r long-bindings long-header named bound buffered created padded headed =
+    ran-ahead chunk edits (headerSize (isSm5 (r .rd11))) (headerWords r) long-header
+    (ran-bind chunk edits _ (ran-ahead chunk edits (length (r .bindings) * bindingSize (isWide (r .rd11))) (rows (bindingWords (isWide (r .rd11))) (r .bindings)) long-bindings named bound)
+    (ran-bind chunk edits _ buffered (ran-bind chunk edits _ created (ran-bind chunk edits _ (ran-pad chunk edits padded) (ran-return chunk edits _ _ _ _)))))
+    headed
+    .put

@@ -1,0 +1,28 @@
+-- What writing a chunk does: the scratch's pools begin empty, and the output then holds the canonical form of what the tables hold.
+use mathlib.Core.Path.{_≡_}
+use mathlib.Core.List.{List, []}
+use Prim.Native.Nat.{ℕ}
+use lib.ListN.{length}
+use Rattle.words.specs.Splice.{Put}
+use Rattle.reflection.specs.declared.ResourceDef.{ResourceDef as Header}
+use Rattle.reflection.specs.Contents.{contents}
+use Rattle.writing.specs.Step.{pools}
+use Rattle.writing.specs.Canonical.{canonical}
+use Rattle.text_pool.specs.Pool.{entryCount}
+use Rattle.placing.specs.Scratch.{outerPool, innerPool, defaultPool, Ready}
+use Rattle.table_placing.specs.Held.{reflectionHeld}
+use Rattle.table_placing.specs.Placed.{poolsAt}
+
+-- The pools of texts are in order and empty, and no type may be shared yet.
+pub record PoolsBegun (s s′ : List ℕ) : Type 0 where
+  pub long : length s′ ≡ length s
+  pub ready : (chunk edits : List ℕ) → Ready chunk edits s′
+  pub none : (types : List ℕ) → poolsAt types s′ 0 0 ≡ pools [] [] [] [] []
+  pub no-outer : entryCount (outerPool s′) ≡ 0
+  pub no-inner : entryCount (innerPool s′) ≡ 0
+  pub no-defaults : entryCount (defaultPool s′) ≡ 0
+
+-- The chunk was written.
+pub record ChunkWritten (chunk edits : List ℕ) (h : Header) (bindings buffers variables types s s′ out out′ : List ℕ) (r : ℕ) : Type 0 where
+  pub put : Put out 0 (canonical (contents chunk edits (reflectionHeld h bindings buffers variables types))) out′ r
+  pub long : length s′ ≡ length s

@@ -1,0 +1,49 @@
+-- The reflection that a header and its tables hold, read off them record by record; total, with no test of the counts. Where decoding gives a reflection it is
+-- this one (proofs/Decoded.antt), so the code that walks the tables needs no premise on them beyond their sizes.
+use mathlib.Core.List.{List, map}
+use Prim.Native.Nat.{ℕ, zero, suc, _+_, _≤_}
+use Rattle.reflection.specs.declared.Text.{Text}
+use Rattle.reflection.specs.declared.ResourceDef.{ResourceDef as Header}
+use Rattle.reflection.specs.Reflection.{CBufferVariable, CBufferDef, ResourceDef}
+use Rattle.reflection.specs.Nodes.{typeLevels}
+use Rattle.reflection.specs.Records.{bindingAt, bufferAt, variableAt}
+use Rattle.reflection.specs.Decode.{recordsFrom, bindingFrom, variableFrom, bufferFrom, rd11From}
+use Rattle.type_equality.specs.Trees.{treeAt, typeTree}
+
+-- The node at which the type of variable j begins: after the nodes of the variables before it.
+unfoldable pub rootAt : List ℕ → ℕ → ℕ
+rootAt types zero = 0
+rootAt types (suc j) = treeAt types typeLevels (rootAt types j) .next
+
+-- Variable j, with its type.
+unfoldable pub variableHeld : List ℕ → List ℕ → ℕ → CBufferVariable Text Text
+variableHeld variables types j = variableFrom (variableAt variables j) (typeTree types typeLevels (rootAt types j))
+
+-- How many variables buffer i counts, and how many the buffers before it count.
+unfoldable pub countAt : List ℕ → ℕ → ℕ
+countAt buffers i = bufferAt buffers i .«variable_count»
+
+unfoldable pub firstVariable : List ℕ → ℕ → ℕ
+firstVariable buffers zero = 0
+firstVariable buffers (suc i) = firstVariable buffers i + countAt buffers i
+
+-- Buffer i, with its variables.
+unfoldable pub bufferHeld : List ℕ → List ℕ → List ℕ → ℕ → CBufferDef Text Text
+bufferHeld buffers variables types i = bufferFrom (bufferAt buffers i) (recordsFrom (variableHeld variables types) (firstVariable buffers i) (countAt buffers i))
+
+unfoldable pub reflectionHeld : Header → List ℕ → List ℕ → List ℕ → List ℕ → ResourceDef Text Text
+reflectionHeld h bindings buffers variables types = record {
+  target-version = h .«target_version»;
+  compile-flags = h .«compile_flags»;
+  rd11 = rd11From h;
+  creator = h .creator;
+  bindings = map bindingFrom (recordsFrom (bindingAt bindings) 0 (h .«binding_count»));
+  constant-buffers = recordsFrom (bufferHeld buffers variables types) 0 (h .«buffer_count»);
+}
+
+-- The records are no more than the tables' greatest sizes: 1,024 bindings, 64 buffers, 2,048 variables, 4,096 nodes.
+pub record Sized (h : Header) (buffers types : List ℕ) : Type 0 where
+  pub few-bindings : h .«binding_count» ≤ 1024
+  pub few-buffers : h .«buffer_count» ≤ 64
+  pub few-variables : firstVariable buffers (h .«buffer_count») ≤ 2048
+  pub few-nodes : rootAt types (firstVariable buffers (h .«buffer_count»)) ≤ 4096

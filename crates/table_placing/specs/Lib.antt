@@ -1,0 +1,6 @@
+pub mod Held
+pub mod Offsets
+pub mod Placed
+pub mod Moved
+pub mod Sections
+pub mod Chunk

@@ -1,0 +1,120 @@
+// The whole chunk: the bindings and their names, the buffers, the creator, and last the header.
+ghost use mathlib.Core.Path.{_≡_};
+ghost use Prim.Native.Nat.{_+_, _*_, _≤_};
+ghost use lib.ListN.{length};
+ghost use Rattle.reflection.specs.Reflection.{isSm5, isWide};
+ghost use Rattle.reflection.specs.Decode.{rd11From};
+ghost use Rattle.writing.specs.Records.{bindingSize, headerSize};
+ghost use Rattle.placing.specs.Scratch.{scratchEnd};
+ghost use Rattle.placing.specs.Pooling.{Short};
+ghost use Rattle.table_placing.specs.Held.{Sized};
+ghost use Rattle.table_placing.specs.Chunk.{PoolsBegun, ChunkWritten};
+use crate::buffers::place_buffers;
+use crate::names::place_outer_names;
+use crate::records::put_binding_records;
+use crate::records::put_header;
+use reflection::ResourceDef;
+
+// Where the offsets of bindings' names begin in the scratch.
+const BINDINGS_START: usize = 94336;
+
+// How many words a record of the bindings' table has.
+const BINDING_WORDS: usize = 12;
+
+// Whether the chunk is of major 5.
+fn is_sm5(def: ResourceDef) -> bool
+    ensures { λ r. ⌜ r ≡ isSm5 (rd11From def) ⌝ }
+{
+    if def.target_version / 256 % 256 == 4 {
+        return false;
+    }
+    true
+}
+
+// Whether the bindings' records have space and id.
+fn is_wide(def: ResourceDef) -> bool
+    ensures { λ r. ⌜ r ≡ isWide (rd11From def) ⌝ }
+{
+    if def.target_version / 256 % 256 == 4 {
+        return false;
+    }
+    def.rd11.resource_binding_stride == 40
+}
+
+// How many words a binding's record and the header take in the chunk.
+fn binding_size(wide: bool) -> usize
+    ensures { λ r. ⌜ (r ≡ bindingSize wide) × (r ≤ 10) ⌝ }
+{
+    if wide { 10 } else { 8 }
+}
+
+fn header_size(sm5: bool) -> usize
+    ensures { λ r. ⌜ (r ≡ headerSize sm5) × (r ≤ 15) ⌝ }
+{
+    if sm5 { 15 } else { 7 }
+}
+
+// Makes the three pools of texts empty.
+fn begin_pools(s: &mut [u32])
+    requires { ⌜ scratchEnd ≤ length (now s) ⌝ }
+    ensures { λ _. ⌜ PoolsBegun (now (s .entry)) (now (s .exit)) ⌝ }
+{
+    text_pool::begin(&mut s[0..8192]);
+    text_pool::begin(&mut s[8192..51200]);
+    text_pool::begin(&mut s[51200..63488]);
+}
+
+// Writes the canonical form of the reflection that the header and the tables hold; the answer is how many bytes it has. What lies past the output's end is dropped.
+pub fn write_chunk<'a>(
+    chunk: &'a [u8],
+    edits: &'a [u8],
+    def: ResourceDef,
+    bindings: &[u32],
+    buffers: &[u32],
+    variables: &[u32],
+    types: &[u32],
+    s: &mut [u32],
+    out: &mut [u8],
+) -> usize
+    requires { ⌜ Short (now chunk) (now edits) ⌝ }
+    requires { ⌜ Sized def (now buffers) (now types) ⌝ }
+    requires { ⌜ scratchEnd ≤ length (now s) ⌝ }
+    ensures { λ r. ⌜ ChunkWritten (now (chunk .entry)) (now (edits .entry)) def (now (bindings .entry)) (now (buffers .entry)) (now (variables .entry)) (now (types .entry)) (now (s .entry)) (now (s .exit)) (now (out .entry)) (now (out .exit)) r ⌝ }
+{
+    begin_pools(s);
+    let sm5 = is_sm5(def);
+    let wide = is_wide(def);
+    let start = 4 * header_size(sm5);
+    let count = def.binding_count as usize;
+    let named = place_outer_names(
+        chunk,
+        edits,
+        bindings,
+        BINDING_WORDS,
+        count,
+        BINDINGS_START,
+        1,
+        s,
+        out,
+        start + 4 * (count * binding_size(wide)),
+    );
+    put_binding_records(bindings, &s[..], out, start, count, wide);
+    let placed = place_buffers(
+        chunk,
+        edits,
+        buffers,
+        variables,
+        types,
+        s,
+        out,
+        named,
+        def.buffer_count as usize,
+        sm5,
+    );
+    let records = placed.offset;
+    let creator = placing::place_inner_name(chunk, edits, def.creator, s, out, placed.at);
+    let creator_offset = creator.offset;
+    let end = placing::put_padding(out, creator.at);
+    put_header(def, records, creator_offset, sm5, out);
+    end
+}

@@ -1,0 +1,48 @@
+-- The writer's answer, test by test: short scratch, a reflection that is not readable, and the canonical form of one that is. Each is a case of `write`.
+use mathlib.Core.Path.{_≡_, refl, ap, _∙_}
+use mathlib.Core.Bool.{Bool, true, false, cond}
+use mathlib.Core.List.{List}
+use mathlib.Core.Option.{Option, none, some}
+use Prim.Native.Nat.{ℕ, _<_, _≤_}
+use native.Mathlib.Omega.{arith}
+use borrow.Author.Tests.{le-leb, lt-leb}
+use lib.Dec.{leb}
+use Rattle.reflection.specs.declared.ResourceDef.{ResourceDef as Header}
+use Rattle.reflection.specs.Outcome.{Outcome, ok, refused, because}
+use Rattle.reflection.specs.Reflection.{ResourceDef}
+use Rattle.reflection.specs.Contents.{Bytes, contents}
+use Rattle.readable.specs.Readable.{held, readable, isReadable, readableContents}
+use Rattle.readable.proofs.ReadableTables.{Readable}
+use Rattle.emit.specs.Written.{fitting}
+use Rattle.writing.specs.Canonical.{canonical}
+use Rattle.writing.specs.Outcome.{scratchSize, canonicalOr16, write}
+
+module _ (scratch room : ℕ) where
+  pub short-scratch : (r : Option (ResourceDef Bytes Bytes)) → scratch < scratchSize → write scratch room r ≡ refused (because 15)
+  unfolding write
+  short-scratch r short = rw (lt-leb scratchSize scratch short)
+
+  -- With scratch enough, what is written is the canonical form or 16, where it fits.
+  enough-scratch : (r : Option (ResourceDef Bytes Bytes)) → scratchSize ≤ scratch → write scratch room r ≡ fitting room (canonicalOr16 r)
+  unfolding write
+  enough-scratch r enough = rw (le-leb scratchSize scratch enough)
+
+  not-readable : (r : Option (ResourceDef Bytes Bytes)) → isReadable r ≡ false → canonicalOr16 r ≡ refused (because 16)
+  unfolding canonicalOr16
+  not-readable none e = refl
+  not-readable (some r) e = rw e
+
+  pub readable-written : (r : ResourceDef Bytes Bytes) → readableContents r ≡ true → scratchSize ≤ scratch → write scratch room (some r) ≡ fitting room (ok (canonical r))
+  unfolding canonicalOr16
+  readable-written r is-readable enough =
+      enough-scratch (some r) enough ∙ ap (λ (test : Bool). fitting room (cond test (ok (canonical r)) (refused (because 16)))) is-readable
+
+  module _ (chunk edits : Bytes) (h : Header) (bindings buffers variables types : List ℕ) (enough : scratchSize ≤ scratch) where
+    pub unreadable : readable chunk edits h bindings buffers variables types ≡ false
+        → write scratch room (held chunk edits h bindings buffers variables types) ≡ refused (because 16)
+    unfolding readable fitting
+    unreadable e = enough-scratch (held chunk edits h bindings buffers variables types) enough ∙ ap (fitting room) (not-readable (held chunk edits h bindings buffers variables types) e)
+
+    pub writable : (r : Readable chunk edits h bindings buffers variables types)
+        → write scratch room (held chunk edits h bindings buffers variables types) ≡ fitting room (ok (canonical (contents chunk edits (r .def))))
+    writable r = ap (write scratch room) (r .is-held) ∙ readable-written (contents chunk edits (r .def)) (r .is-readable) enough

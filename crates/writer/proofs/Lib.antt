@@ -1,0 +1,3 @@
+pub mod Answers
+pub mod Loaded
+pub mod TablesSized
