@@ -166,7 +166,7 @@ pub fn place_buffers<'a>(
     if count == 0 {
         return Spot { offset: 0, at: at };
     }
-    let start = placing::put_padding(out, at);
+    let records = placing::put_padding(out, at);
     let named = place_outer_names(
         chunk,
         edits,
@@ -177,7 +177,7 @@ pub fn place_buffers<'a>(
         2,
         s,
         out,
-        start + 4 * (count * 6),
+        records + 4 * (count * 6),
     );
     let reached = place_sections(
         chunk,
@@ -191,9 +191,9 @@ pub fn place_buffers<'a>(
         count,
         sm5,
     );
-    put_buffer_records(buffers, &s[..], out, start, count);
+    put_buffer_records(buffers, &s[..], out, records, count);
     Spot {
-        offset: start as u32,
+        offset: records as u32,
         at: reached.at,
     }
 }

@@ -1,15 +1,49 @@
 // Whether two types, of one table or of two, are equal: their numbers, names and members (document 01, "Canonical form").
 ghost use mathlib.Core.Path.{_≡_};
+ghost use mathlib.Core.Bool.{true, false};
 ghost use Prim.Native.Nat.{_≤_};
 ghost use Rattle.text.specs.Same.{sameBytes};
 ghost use Rattle.reflection.specs.Decode.{nodeFrom};
 ghost use Rattle.writing.specs.Same.{numbersOf, sameType, sameMembers};
-ghost use Rattle.type_equality.specs.Trees.{treeAt, membersAt, typeTree};
+ghost use Rattle.type_equality.specs.Trees.{nodeAt, treeAt, membersAt, typeTree};
 ghost use Rattle.type_equality.specs.Same.{sameName};
 use crate::skip::has_member;
 use crate::skip::skip_type;
 use reflection::Text;
 use reflection::TypeDesc;
+
+const TYPE_WORDS: usize = 17;
+
+// Whether one of the first five numbers of node a of one table is another than that of node b of another. A quick test: the words are read where they lie, the
+// number of columns, in which most types differ, first. Where it says no, the numbers may differ all the same.
+fn other_numbers(types: &[u32], a: usize, others: &[u32], b: usize) -> bool
+    ensures { λ r. ⌜ (r ≡ true → sameBytes (numbersOf (nodeAt (now (types .entry)) a .numbers)) (numbersOf (nodeAt (now (others .entry)) b .numbers)) ≡ false) ⌝ }
+{
+    if a >= types.len() / TYPE_WORDS {
+        return false;
+    }
+    if b >= others.len() / TYPE_WORDS {
+        return false;
+    }
+    let i = a * TYPE_WORDS;
+    let j = b * TYPE_WORDS;
+    if types[i + 3] != others[j + 3] {
+        return true;
+    }
+    if types[i + 2] != others[j + 2] {
+        return true;
+    }
+    if types[i + 1] != others[j + 1] {
+        return true;
+    }
+    if types[i + 4] != others[j + 4] {
+        return true;
+    }
+    if types[i] != others[j] {
+        return true;
+    }
+    false
+}
 
 // Whether two nodes have the same numbers, the member count left out.
 fn same_numbers(x: TypeDesc, y: TypeDesc) -> bool
@@ -63,6 +97,9 @@ pub fn same_type<'a>(
     requires { ⌜ (a ≤ 0x1000_0000_0000_0000) × (b ≤ 0x1000_0000_0000_0000) ⌝ }
     ensures { λ r. ⌜ r ≡ sameType (sameName (now (chunk .entry)) (now (edits .entry))) (typeTree (now (types .entry)) levels a) (typeTree (now (types .entry)) levels b) ⌝ }
 {
+    if other_numbers(types, a, types, b) {
+        return false;
+    }
     same_type_between(chunk, edits, types, a, types, b, levels)
 }
 

@@ -3,10 +3,11 @@ use mathlib.Core.Path.{_≡_, refl, ap, _∙_}
 use mathlib.Core.Bool.{Bool, true, false, cond}
 use mathlib.Core.List.{List}
 use mathlib.Core.Option.{Option, none, some}
-use Prim.Native.Nat.{ℕ, _<_, _≤_}
+use Prim.Native.Nat.{ℕ, _-_, _<_, _≤_}
 use native.Mathlib.Omega.{arith}
 use borrow.Author.Tests.{le-leb, lt-leb}
 use lib.Dec.{leb}
+use lib.ListN.{replicate}
 use Rattle.reflection.specs.declared.ResourceDef.{ResourceDef as Header}
 use Rattle.reflection.specs.Outcome.{Outcome, ok, refused, because}
 use Rattle.reflection.specs.Reflection.{ResourceDef}
@@ -16,6 +17,12 @@ use Rattle.readable.proofs.ReadableTables.{Readable}
 use Rattle.emit.specs.Written.{fitting}
 use Rattle.writing.specs.Canonical.{canonical}
 use Rattle.writing.specs.Outcome.{scratchSize, canonicalOr16, write}
+
+-- A scratch that kept its length is zeros, all of it, once it is cleared from its first word on.
+pub cleared-whole : {long n : ℕ} → long ≡ n → replicate {A = ℕ} (long - 0) 0 ≡ replicate n 0
+cleared-whole {long} {n} e =
+    let whole : long - 0 ≡ n = omega (arith, e) in
+    ap (λ (k : ℕ). replicate {A = ℕ} k 0) whole
 
 module _ (scratch room : ℕ) where
   pub short-scratch : (r : Option (ResourceDef Bytes Bytes)) → scratch < scratchSize → write scratch room r ≡ refused (because 15)

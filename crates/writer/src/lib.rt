@@ -75,6 +75,6 @@ pub fn write_rdef_canonical<'a>(
         scratch,
         out,
     );
-    words::clear(scratch);
+    words::clear_from(scratch, 0);
     written
 }

@@ -1,0 +1,102 @@
+-- Records compared field by field, as the code's tests follow it: the first part that differs decides, and where all agree the rest does.
+use mathlib.Core.Path.{_≡_, refl, sym, ap, _∙_}
+use mathlib.Core.Bool.{Bool, true, false, _&&_}
+use mathlib.Core.List.{[], _∷_}
+use borrow.Author.Tests.{eq-eqb, ne-eqb}
+use Rattle.text.specs.Same.{sameBytes}
+use Rattle.reflection.specs.declared.Text.{Text}
+use Rattle.reflection.specs.declared.ResourceDef.{ResourceDef as Header}
+use Rattle.reflection.specs.declared.ResourceBinding.{ResourceBinding as BindingRecord}
+use Rattle.reflection.specs.declared.CBufferDef.{CBufferDef as BufferRecord}
+use Rattle.reflection.specs.declared.CBufferVariable.{CBufferVariable as VariableRecord}
+use Rattle.reflection.specs.Reflection.{TypeDesc, majorOf, rd11}
+use Rattle.reflection.specs.Decode.{bindingFrom, variableFrom, rd11From}
+use Rattle.writing.specs.Same.{sameType, sameBinding, sameVariable, rd11Numbers}
+use Rattle.comparing.specs.Fields.{sameFields, headerNumbers}
+
+module _ (same : Text → Text → Bool) where
+  module _ (x y : BindingRecord) where
+    pub other-binding : same (x .name) (y .name) ≡ false → sameBinding same same (bindingFrom x) (bindingFrom y) ≡ false
+    unfolding sameBinding bindingFrom
+    other-binding e = rw e
+
+    pub binding-numbers : same (x .name) (y .name) ≡ true
+        → sameBinding same same (bindingFrom x) (bindingFrom y)
+        ≡ sameBytes
+        (x .«input_type» ∷ x .«return_type» ∷ x .dimension ∷ x .«num_samples» ∷ x .«bind_point» ∷ x .«bind_count» ∷ x .flags .0 ∷ x .space ∷ x .id ∷ [])
+        (y .«input_type» ∷ y .«return_type» ∷ y .dimension ∷ y .«num_samples» ∷ y .«bind_point» ∷ y .«bind_count» ∷ y .flags .0 ∷ y .space ∷ y .id ∷ [])
+    unfolding sameBinding bindingFrom
+    binding-numbers e = rw e
+
+  module _ (x y : BufferRecord) where
+    pub other-buffer : same (x .name) (y .name) ≡ false → sameFields same x y ≡ false
+    unfolding sameFields
+    other-buffer e = rw e
+
+    pub buffer-numbers : same (x .name) (y .name) ≡ true
+        → sameFields same x y ≡ sameBytes (x .size ∷ x .flags ∷ x .«cb_type» ∷ []) (y .size ∷ y .flags ∷ y .«cb_type» ∷ [])
+    unfolding sameFields
+    buffer-numbers e = rw e
+
+  -- Two variables with their types.
+  module _ (x y : VariableRecord) (t u : TypeDesc Text) where
+    abbrev equal-variables : Bool
+    equal-variables = sameVariable same same (variableFrom x t) (variableFrom y u)
+
+    abbrev equal-numbers : Bool
+    equal-numbers =
+        sameBytes (x .offset ∷ x .size ∷ x .flags .0 ∷ x .«texture_start» ∷ x .«texture_size» ∷ x .«sampler_start» ∷ x .«sampler_size» ∷ [])
+        (y .offset ∷ y .size ∷ y .flags .0 ∷ y .«texture_start» ∷ y .«texture_size» ∷ y .«sampler_start» ∷ y .«sampler_size» ∷ [])
+
+    variable-parts : equal-variables
+        ≡ same (x .name) (y .name) && (equal-numbers && (same (x .«default_value») (y .«default_value») && sameType same t u))
+    unfolding sameVariable variableFrom
+    variable-parts = refl
+
+    pub other-variable : same (x .name) (y .name) ≡ false → equal-variables ≡ false
+    other-variable e = variable-parts ∙ rw e
+
+    module _ (names : same (x .name) (y .name) ≡ true) where
+      pub other-numbers : equal-numbers ≡ false → equal-variables ≡ false
+      other-numbers e = variable-parts ∙ rw names (ap (λ (b : Bool). b && (same (x .«default_value») (y .«default_value») && sameType same t u)) e)
+
+      module _ (numbers : equal-numbers ≡ true) where
+        by-default : equal-variables ≡ (same (x .«default_value») (y .«default_value») && sameType same t u)
+        by-default = variable-parts ∙ rw names (ap (λ (b : Bool). b && (same (x .«default_value») (y .«default_value») && sameType same t u)) numbers)
+
+        pub other-default : same (x .«default_value») (y .«default_value») ≡ false → equal-variables ≡ false
+        other-default e = by-default ∙ rw e
+
+        pub by-type : same (x .«default_value») (y .«default_value») ≡ true → equal-variables ≡ sameType same t u
+        by-type e = by-default ∙ rw e
+
+-- Two headers. Major 4 has no RD11 words.
+no-rd11 : (h : Header) → majorOf (h .«target_version») ≡ 4 → rd11Numbers (rd11From h) ≡ []
+unfolding rd11Numbers rd11From
+no-rd11 h four = rw (eq-eqb (majorOf (h .«target_version»)) 4 four, rd11From)
+
+some-rd11 : (h : Header) → (majorOf (h .«target_version») ≡ 4 → ⊥)
+    → rd11Numbers (rd11From h) ≡ h .rd11 .identifier ∷ h .rd11 .«resource_binding_stride» ∷ h .rd11 .«interface_slot_count» ∷ []
+unfolding rd11Numbers rd11From
+some-rd11 h other = rw (ne-eqb (majorOf (h .«target_version»)) 4 other, rd11From)
+
+module _ (x y : Header) (version : x .«target_version» ≡ y .«target_version») (flags : x .«compile_flags» ≡ y .«compile_flags») where
+  by-words : sameBytes (headerNumbers x) (headerNumbers y) ≡ sameBytes (rd11Numbers (rd11From x)) (rd11Numbers (rd11From y))
+  unfolding sameBytes headerNumbers
+  by-words = rw (eq-eqb (x .«target_version») (y .«target_version») version, eq-eqb (x .«compile_flags») (y .«compile_flags») flags)
+
+  pub equal-major-4 : majorOf (x .«target_version») ≡ 4 → sameBytes (headerNumbers x) (headerNumbers y) ≡ true
+  unfolding sameBytes
+  equal-major-4 four =
+      let p = no-rd11 x four in
+      let q = no-rd11 y (ap majorOf (sym version) ∙ four) in
+      by-words ∙ (λ z. sameBytes (p z) (q z))
+
+  pub by-rd11 : (majorOf (x .«target_version») ≡ 4 → ⊥)
+      → sameBytes (headerNumbers x) (headerNumbers y)
+      ≡ sameBytes (x .rd11 .identifier ∷ x .rd11 .«resource_binding_stride» ∷ x .rd11 .«interface_slot_count» ∷ [])
+      (y .rd11 .identifier ∷ y .rd11 .«resource_binding_stride» ∷ y .rd11 .«interface_slot_count» ∷ [])
+  by-rd11 other =
+      let p = some-rd11 x other in
+      let q = some-rd11 y (λ e. other (ap majorOf version ∙ e)) in
+      by-words ∙ (λ z. sameBytes (p z) (q z))

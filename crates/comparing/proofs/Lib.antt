@@ -1,0 +1,3 @@
+mod Walks
+mod Fields
+mod Buffers

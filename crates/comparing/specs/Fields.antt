@@ -1,0 +1,24 @@
+-- Parts of a reflection that are compared at once.
+use mathlib.Core.Bool.{Bool, _&&_}
+use mathlib.Core.List.{List, [], _∷_}
+use Prim.Native.Nat.{ℕ}
+use Rattle.text.specs.Same.{sameBytes}
+use Rattle.reflection.specs.declared.Text.{Text}
+use Rattle.reflection.specs.declared.ResourceDef.{ResourceDef as Header}
+use Rattle.reflection.specs.declared.CBufferDef.{CBufferDef as BufferRecord}
+use Rattle.reflection.specs.Reflection.{ResourceBinding}
+use Rattle.reflection.specs.Records.{bindingAt}
+use Rattle.reflection.specs.Decode.{bindingFrom, rd11From}
+use Rattle.writing.specs.Same.{rd11Numbers}
+
+-- Two buffers' names and numbers, but not their variables.
+unfoldable pub sameFields : (Text → Text → Bool) → BufferRecord → BufferRecord → Bool
+sameFields same x y = same (x .name) (y .name) && sameBytes (x .size ∷ x .flags ∷ x .«cb_type» ∷ []) (y .size ∷ y .flags ∷ y .«cb_type» ∷ [])
+
+-- A header's version, flags and RD11 words.
+unfoldable pub headerNumbers : Header → List ℕ
+headerNumbers h = h .«target_version» ∷ h .«compile_flags» ∷ rd11Numbers (rd11From h)
+
+-- Binding i of a table.
+unfoldable pub bindingHeld : List ℕ → ℕ → ResourceBinding Text
+bindingHeld bindings i = bindingFrom (bindingAt bindings i)
