@@ -2,15 +2,19 @@
 use mathlib.Core.Path.{_≡_, refl, ap, _∙_}
 use mathlib.Core.Bool.{Bool, true, false, cond}
 use mathlib.Core.List.{List}
+use mathlib.Core.Option.{Option}
 use Prim.Native.Nat.{ℕ, min, _≤_}
 use native.Mathlib.Omega.{arith}
 use borrow.Author.Tests.{leb-true}
 use lib.Dec.{leb}
 use lib.ListN.{length}
 use Rattle.reflection.specs.Outcome.{Outcome, ok, refused, because}
+use Rattle.reflection.specs.Reflection.{ResourceDef}
+use Rattle.reflection.specs.Contents.{Bytes}
 use Rattle.emit.specs.declared.Written.{Written}
 use Rattle.emit.specs.declared.Written.the-variants.{Wrote}
 use Rattle.emit.specs.Written.{fitting, writtenOf, outputOf}
+use Rattle.writing.specs.Outcome.{scratchSize, canonicalOr16, write}
 use Rattle.nontrefalcu.specs.Exports.{numberOf, resultTable, oneWord, lengthTable, writtenLength, LengthFits}
 
 written-number : (out : Outcome (List ℕ)) → numberOf (writtenLength (writtenOf out)) ≡ numberOf out
@@ -34,9 +38,18 @@ unfolding fitting writtenOf
 fitting-fits room (ok bytes) = fits-by-test room bytes (leb (length bytes) (min room 65536)) refl
 fitting-fits room (refused e) = tt
 
+fits-by-scratch : (enough : Bool) (room : ℕ) (out : Outcome (List ℕ)) → LengthFits (writtenOf (cond enough (fitting room out) (refused (because 15))))
+unfolding writtenOf
+fits-by-scratch true room out = fitting-fits room out
+fits-by-scratch false room out = tt
+
 module _ {written : Written} where
   pub length-fits : (room : ℕ) (out : Outcome (List ℕ)) → written ≡ writtenOf (fitting room out) → LengthFits written
   length-fits room out answer = rw answer (fitting-fits room out)
+
+  pub canonical-fits : (scratch room : ℕ) (r : Option (ResourceDef Bytes Bytes)) → written ≡ writtenOf (write scratch room r) → LengthFits written
+  unfolding write
+  canonical-fits scratch room r answer = rw answer (fits-by-scratch (leb scratchSize scratch) room (canonicalOr16 r))
 
   pub wrote-fits : {n : ℕ} → LengthFits written → written ≡ Wrote n → n ≤ 65536
   wrote-fits fits wrote = rw wrote at fits

@@ -1,7 +1,7 @@
 -- What the exported functions hand to C and Rust: an answer as numbers (docs/ROOM.md has the layout).
 use mathlib.Core.List.{List, [], _∷_}
 use Prim.Native.Nat.{ℕ, _≤_}
-use lib.ListN.{length, replicate}
+use lib.ListN.{length, replicate, getD}
 use Rattle.words.specs.Splice.{splice}
 use Rattle.reflection.specs.declared.Text.{Text}
 use Rattle.reflection.specs.declared.ResourceDef.{ResourceDef as Header}
@@ -36,6 +36,19 @@ headerWords h =
     h .«target_version» ∷ h .«compile_flags» ∷ h .creator .source ∷ h .creator .place ∷ h .creator .length
     ∷ h .rd11 .identifier ∷ h .rd11 .«resource_binding_stride» ∷ h .rd11 .«interface_slot_count»
     ∷ h .«binding_count» ∷ h .«buffer_count» ∷ h .«variable_count» ∷ h .«type_count» ∷ []
+
+-- The header that such words are; words that are missing are 0.
+unfoldable pub headerAt : List ℕ → Header
+headerAt w = record {
+  «target_version» = getD w 0 0;
+  «compile_flags» = getD w 1 0;
+  creator = record { source = getD w 2 0; place = getD w 3 0; length = getD w 4 0 };
+  rd11 = record { identifier = getD w 5 0; «resource_binding_stride» = getD w 6 0; «interface_slot_count» = getD w 7 0 };
+  «binding_count» = getD w 8 0;
+  «buffer_count» = getD w 9 0;
+  «variable_count» = getD w 10 0;
+  «type_count» = getD w 11 0;
+}
 
 abbrev pub headerTable : Outcome (ResourceDef Text Text) → ℕ → List ℕ
 headerTable out n = resultTable (λ (r : ResourceDef Text Text). headerWords (headerOf r)) out n

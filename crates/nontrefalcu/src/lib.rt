@@ -1,9 +1,11 @@
 // What C and Rust link: the proved library's functions, with numbers and slices only.
 mod answer;
+mod header;
 mod list;
 mod read;
 mod refusal;
 mod spell;
+mod write;
 
 pub use list::nontrefalcu_list_binding;
 pub use read::nontrefalcu_parse_rdef;
@@ -11,3 +13,4 @@ pub use refusal::nontrefalcu_refusal_text;
 pub use spell::nontrefalcu_declaration;
 pub use spell::nontrefalcu_parse_type;
 pub use spell::nontrefalcu_type_name;
+pub use write::nontrefalcu_write_canonical;

@@ -1,13 +1,19 @@
-//! Times the port's reading beside rdef.rs, on the same chunks in one run.
+//! Times the port's reading and its canonical writing beside rdef.rs, on the same chunks in one run.
 
 use oracle::generate::fixed::plain;
 use oracle::generate::plan::{Binding, Buffer, Member, Plan, Type, Value, Variable};
 use oracle::generate::rng::Rng;
+use oracle::generate::samples;
 use oracle::generate::texts::identifier;
 use oracle::port::port;
 use oracle::rdef::{parse_only, parse_rdef};
 use oracle::tables::{Answer, LIMITS, WIDTHS};
 use oracle::words;
+use oracle::writing::generate::large;
+use oracle::writing::port::{port as write_canonical, Lent};
+use oracle::writing::rust::{canonical, resource_def};
+use oracle::writing::{Held, LONGEST, SCRATCH};
+use oracle::ChunkWriter;
 use std::hint::black_box;
 use std::time::Instant;
 
@@ -28,6 +34,54 @@ fn main() {
         line(&format!("typical, major {major}"), &chunk(&TYPICAL, major));
         line(&format!("near-limit, major {major}"), &chunk(&NEAR_LIMIT, major));
     }
+    writing();
+}
+
+fn writing() {
+    println!();
+    println!("Canonical writing, nanoseconds per call, median of {ROUNDS} rounds:");
+    println!("  (e) rdef.rs: write_payload of a reflection without original bytes, which is write_rdef_canonical");
+    println!("  (f) the port with scratch of {SCRATCH} words and an output of {LONGEST} bytes");
+    println!("Making and freeing the vectors and maps is in (e); clearing the scratch is in (f), always.");
+    println!();
+    println!("{:<55}{:>7}{:>12}{:>12}{:>9}", "reflection", "bytes", "(e)", "(f)", "e/f");
+    let read = |chunk: &[u8]| Held::read(chunk, words::read(chunk).expect("rdef.rs reads the chunk"));
+    for major in [4, 5] {
+        canonical_line(&format!("typical, major {major}"), &read(&chunk(&TYPICAL, major)));
+    }
+    for (name, size) in large::SIZES {
+        canonical_line(&format!("{name}, major {}", size.major), &large::held(&size, 0));
+    }
+    for sample in samples::all() {
+        canonical_line(&format!("sample {}", sample.name), &read(&sample.bytes));
+    }
+}
+
+fn canonical_line(name: &str, held: &Held) {
+    let (expected, def) = (canonical(held), resource_def(held));
+    let (mut scratch, mut out, mut length) = (vec![1; SCRATCH], vec![1; LONGEST], [1]);
+    // What is timed must be right; a form that is too long is refused.
+    let number = write_held(held, &mut scratch, &mut out, &mut length);
+    if expected.len() <= LONGEST {
+        assert_eq!((number, length[0] as usize), (0, expected.len()));
+        assert_eq!(out[..expected.len()], expected);
+    } else {
+        assert_eq!((number, length), (17, [0]));
+    }
+    let mut times: [Vec<f64>; 2] = Default::default();
+    for _ in 0..ROUNDS {
+        times[0].push(time(|| drop(black_box(black_box(&def).write_payload()))));
+        times[1].push(time(|| {
+            black_box(write_held(black_box(held), &mut scratch, &mut out, &mut length));
+        }));
+    }
+    let [e, f] = times.map(median);
+    println!("{name:<55}{:>7}{e:>12.0}{f:>12.0}{:>9.2}", expected.len(), e / f);
+}
+
+fn write_held(held: &Held, scratch: &mut [u32], out: &mut [u8], length: &mut [u32]) -> u32 {
+    let lent = Lent { chunk: &held.chunk, edits: &held.edits, header: &held.words.header, tables: held.words.tables() };
+    write_canonical(&lent, scratch, out, length)
 }
 
 fn line(name: &str, chunk: &[u8]) {

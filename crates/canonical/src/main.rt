@@ -1,0 +1,67 @@
+// Reads a chunk from standard input and prints its canonical form (document 01, "Canonical form"), or why there is none.
+use emit::Written;
+use libc::STDIN_FILENO;
+use reader::Parsed;
+
+// Prints the canonical form of what the chunk reads as, made in `form`. Nothing is edited: the text of edits is empty.
+fn canonical(
+    chunk: &[u8],
+    bindings: &mut [u32; 12288],
+    buffers: &mut [u32; 448],
+    variables: &mut [u32; 26624],
+    types: &mut [u32; 69632],
+    scratch: &mut [u32; 95360],
+    form: &mut [u8; 65536],
+) {
+    let mut out = [0u8; 8192];
+    let mut used: usize = 0;
+    let parsed = reader::parse_rdef(chunk, bindings, buffers, variables, types);
+    match parsed {
+        Parsed::Refused(refusal) => {
+            output::put_refused(&mut out, &mut used, refusal.number);
+        }
+        Parsed::Read(def) => {
+            let written = writer::write_rdef_canonical(
+                chunk,
+                &chunk[0..0],
+                def,
+                bindings,
+                buffers,
+                variables,
+                types,
+                scratch,
+                form,
+            );
+            match written {
+                Written::Refused(refusal) => {
+                    output::put_refused(&mut out, &mut used, refusal.number);
+                }
+                Written::Wrote(n) => {
+                    output::put_bytes(&mut out, &mut used, words::part(form, 0, n));
+                }
+            }
+        }
+    }
+    output::flush(&out, &mut used);
+}
+
+// The tables have document 01's whole room. One byte more than the longest chunk is read, so that a longer one is seen.
+fn main() {
+    let mut chunk = [0u8; 65537];
+    let n = io::read_full(STDIN_FILENO, &mut chunk);
+    let mut bindings = [0u32; 12288];
+    let mut buffers = [0u32; 448];
+    let mut variables = [0u32; 26624];
+    let mut types = [0u32; 69632];
+    let mut scratch = [0u32; 95360];
+    let mut form = [0u8; 65536];
+    canonical(
+        &chunk[..n],
+        &mut bindings,
+        &mut buffers,
+        &mut variables,
+        &mut types,
+        &mut scratch,
+        &mut form,
+    );
+}
