@@ -6,6 +6,7 @@ mod read;
 mod refusal;
 mod spell;
 mod write;
+mod write_payload;
 
 pub use list::nontrefalcu_list_binding;
 pub use read::nontrefalcu_parse_rdef;
@@ -14,3 +15,4 @@ pub use spell::nontrefalcu_declaration;
 pub use spell::nontrefalcu_parse_type;
 pub use spell::nontrefalcu_type_name;
 pub use write::nontrefalcu_write_canonical;
+pub use write_payload::nontrefalcu_write_payload;
