@@ -17,7 +17,7 @@ use Rattle.reflection.specs.Nodes.{typeLevels, Fits, FitsAll}
 use Rattle.reflection.specs.Tables.{padded, allVariables, bindingRows, bufferRows, variableRows, typeRows, headerOf}
 use Rattle.reflection.specs.Decode.{check, TypesFit, rd11From}
 use Rattle.reflection.proofs.Nodes.{then-some}
-use Rattle.reflection.proofs.Decode.{decode-encoded}
+use Rattle.reflection.proofs.Decode.{rd11Of, rd11-of-header, decode-encoded}
 use Rattle.reflection.specs.Contents.{Bytes, contents}
 use Rattle.reading.specs.Step.{Room, roomOf}
 use Rattle.reading.specs.Read.{readChunk, read}
@@ -67,11 +67,6 @@ module _ (chunk edits : Bytes) (sm5 : Bool) where
       && (defaultHeld chunk edits (v .size) (v .default-value) && zeroUnless sm5 (v .texture-start ∷ v .texture-size ∷ v .sampler-start ∷ v .sampler-size ∷ [])) in
       (held-fits (v .var-type) typeLevels (and-true own (typeHeld chunk edits sm5 (v .var-type) typeLevels) first .1), types-fit vs others)
 
--- The header of what was read holds its RD11 words, and none for major 4.
-abbrev rd11Of : Bool → Rd11 → Rd11
-rd11Of true words = noRd11
-rd11Of false words = rd11 (identifierOf words) (strideOf words) (slotsOf words)
-
 abbrev threeWords : Rd11 → List ℕ
 threeWords words = identifierOf words ∷ strideOf words ∷ slotsOf words ∷ []
 
@@ -84,11 +79,6 @@ words-of-version version (rd11 identifier stride slots) e =
     let five : majorOf version ≡ 5 = eqb-true (majorOf version) 5 (and-true (eqb (majorOf version) 5) allowed e .0) in
     let other : eqb (majorOf version) 4 ≡ false = ne-eqb (majorOf version) 4 (λ four. omega arith) in
     (ap (λ b. zeroUnless (not b) (identifier ∷ stride ∷ slots ∷ [])) other, sym (ap (λ b. rd11Of b (rd11 identifier stride slots)) other))
-
-rd11-of-header : (d : ResourceDef Text Text) (four : Bool) → eqb (majorOf (d .target-version)) 4 ≡ four → rd11From (headerOf d) ≡ rd11Of four (d .rd11)
-unfolding rd11From headerOf
-rd11-of-header d true is-four = rw (rd11From, is-four)
-rd11-of-header d false is-four = rw (rd11From, is-four)
 
 absent-of-header : (d : ResourceDef Text Text) → versionReadable (d .target-version) (d .rd11) ≡ true → rd11Absent (headerOf d) ≡ true
 unfolding rd11Absent headerOf

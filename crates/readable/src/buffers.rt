@@ -4,7 +4,7 @@ ghost use Rattle.readable.specs.Checks.{buffersHeld};
 use crate::names::name_readable;
 
 // Whether the first `count` buffers are readable, and count as many variables as there are.
-pub fn buffers_readable(
+pub(crate) fn buffers_readable(
     chunk: &[u8],
     edits: &[u8],
     table: &[u32],

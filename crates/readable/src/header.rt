@@ -74,7 +74,7 @@ fn version_readable(def: ResourceDef) -> bool
 }
 
 // Whether the buffers' lengths, the version, the RD11 words and the creator are readable.
-pub fn header_readable(chunk: &[u8], edits: &[u8], def: ResourceDef) -> bool
+pub(crate) fn header_readable(chunk: &[u8], edits: &[u8], def: ResourceDef) -> bool
     ensures { λ r. ⌜ r ≡ headerHeld (now (chunk .entry)) (now (edits .entry)) def ⌝ }
 {
     if 65536 < chunk.len() {
@@ -102,7 +102,7 @@ fn count_readable(n: u32, long: usize, width: usize, most: u32) -> bool
 }
 
 // Whether each table, of so many words, holds as many records as the header counts.
-pub fn counts_readable(
+pub(crate) fn counts_readable(
     def: ResourceDef,
     bindings: usize,
     buffers: usize,

@@ -12,6 +12,9 @@ mod names;
 mod types;
 mod variables;
 
+pub use header::is_sm5;
+pub use header::is_wide;
+
 use reflection::ResourceDef;
 
 // What the walk over a type's nodes answers: the node after them, or that a test failed.

@@ -37,7 +37,7 @@ fn part_readable(s: &[u8], place: usize, n: usize) -> bool
 }
 
 // Whether a name lies in its buffer and is UTF-8 without NUL.
-pub fn name_readable(chunk: &[u8], edits: &[u8], name: Text) -> bool
+pub(crate) fn name_readable(chunk: &[u8], edits: &[u8], name: Text) -> bool
     ensures { λ r. ⌜ r ≡ nameHeld (now (chunk .entry)) (now (edits .entry)) name ⌝ }
 {
     let place = name.place as usize;
@@ -52,7 +52,7 @@ pub fn name_readable(chunk: &[u8], edits: &[u8], name: Text) -> bool
 }
 
 // Whether a default lies in its buffer and is empty or of its variable's size.
-pub fn default_readable(chunk: &[u8], edits: &[u8], size: u32, default: Text) -> bool
+pub(crate) fn default_readable(chunk: &[u8], edits: &[u8], size: u32, default: Text) -> bool
     ensures { λ r. ⌜ r ≡ defaultHeld (now (chunk .entry)) (now (edits .entry)) size default ⌝ }
 {
     let sized = either(same(default.length, 0), same(default.length, size));

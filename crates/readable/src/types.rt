@@ -50,7 +50,7 @@ fn node_readable(chunk: &[u8], edits: &[u8], sm5: bool, inner: bool, t: TypeDesc
 }
 
 // Checks the type whose node is node k, of at most so many levels; `inner` where it is a member's.
-pub fn check_type(
+pub(crate) fn check_type(
     chunk: &[u8],
     edits: &[u8],
     sm5: bool,

@@ -24,7 +24,7 @@ fn variable_readable(chunk: &[u8], edits: &[u8], sm5: bool, v: CBufferVariable) 
 }
 
 // Whether the first `count` variables and their types are readable, and use all `nodes` nodes.
-pub fn variables_readable(
+pub(crate) fn variables_readable(
     chunk: &[u8],
     edits: &[u8],
     sm5: bool,

@@ -17,7 +17,7 @@ use Rattle.reflection.specs.Reflection.{TypeDesc, Members, Rd11, noRd11, rd11, 
 use Rattle.reflection.specs.Nodes.{Fits, FitsAll, typeLevels}
 use Rattle.reflection.specs.Tables.{allVariables, headerOf}
 use Rattle.reflection.specs.Decode.{TypesFit, decode, rd11From}
-use Rattle.reflection.proofs.Decode.{decode-encoded}
+use Rattle.reflection.proofs.Decode.{rd11Of, rd11-of-header, decode-encoded}
 use Rattle.reading.specs.Step.{Room, Step, _>>=_, return, refuse, check}
 use Rattle.reading.specs.Read.{readMany, readMembers, readType, readVariable, variableFrom, variableStride, readBuffer, bufferFrom, readRd11, readTables, readChunk, withoutRoom, read}
 use Rattle.reading.proofs.Steps.{Gives, then-gives, any-gives}
@@ -81,11 +81,6 @@ buffers-fit s sm5 n at r =
     many-gives (λ b. TypesFit (b .variables)) (λ bs. TypesFit (allVariables bs)) tt (λ b bs own others. fit-append (b .variables) (allVariables bs) own others)
     (readBuffer s sm5) (buffer-fits s sm5) 24 n at r
 
--- The RD11 words are none for major 4, and their own three words for another.
-abbrev rd11Of : Bool → Rd11 → Rd11
-rd11Of true words = noRd11
-rd11Of false words = rd11 (identifierOf words) (strideOf words) (slotsOf words)
-
 module _ (s : List ℕ) where
   abbrev major : ℕ
   major = majorOf (wordAt s 16)
@@ -103,11 +98,6 @@ module _ (s : List ℕ) where
       go false is-five true is-four = rw is-four
       go false is-five false is-four = absurd (let apart : _≡_ {A = ℕ} 0 1 = cc in omega arith)
 
-header-rd11 : (d : ResourceDef Text Text) (four : Bool) → eqb (majorOf (d .target-version)) 4 ≡ four → rd11From (headerOf d) ≡ rd11Of four (d .rd11)
-unfolding rd11From headerOf
-header-rd11 d true is-four = rw (rd11From, is-four)
-header-rd11 d false is-four = rw (rd11From, is-four)
-
 -- What decoding asks of a reflection.
 pub record Decodable (d : ResourceDef Text Text) : Type 0 where
   pub fits : TypesFit (allVariables (d .constant-buffers))
@@ -117,7 +107,7 @@ tables-decodable : (s : List ℕ) (creator : Text) (words : Rd11) → OfMajor s 
 unfolding readTables return
 tables-decodable s creator words h r =
     any-gives Decodable _ _ (λ bs. then-gives (λ fs. TypesFit (allVariables fs)) Decodable _ _ (buffers-fit s _ _ _)
-    (λ fs all w. record { fits = all; words = h ∙ sym (header-rd11 _ (eqb (major s) 4) refl) })) r
+    (λ fs all w. record { fits = all; words = h ∙ sym (rd11-of-header _ (eqb (major s) 4) refl) })) r
 
 chunk-decodable : (s : List ℕ) (r : Room) → Gives Decodable (readChunk s r)
 unfolding readChunk

@@ -1,12 +1,14 @@
 -- Decoding undoes encoding: the tables of a reflection hold its records, the nodes build its types again, and the buffers take back their variables.
 -- What a root's node says of a member does not count (the nodes may be rooted anyhow).
 use mathlib.Core.Path.{_≡_, refl, sym, ap, _∙_}
+use mathlib.Core.Bool.{Bool, true, false}
 use mathlib.Core.List.{List, [], _∷_, _++_, map}
 use mathlib.Core.Option.{some}
 use Prim.Native.Nat.{ℕ, suc, _+_, _/_, _<_}
 use native.Mathlib.Nat.{zero-add, add-zero}
 use native.Mathlib.Omega.{arith}
 use borrow.Author.Tests.{le-leb}
+use lib.Dec.{eqb}
 use lib.ListN.{length, getD, length-append, length-map}
 use lib.Seq.{take-append-seam, drop-append-seam}
 use Rattle.reflection.specs.declared.Text.{Text}
@@ -14,7 +16,7 @@ use Rattle.reflection.specs.declared.ResourceBinding.{ResourceBinding as
 use Rattle.reflection.specs.declared.CBufferDef.{CBufferDef as BufferRecord}
 use Rattle.reflection.specs.declared.CBufferVariable.{CBufferVariable as VariableRecord}
 use Rattle.reflection.specs.declared.TypeDesc.{TypeDesc as TypeRecord}
-use Rattle.reflection.specs.Reflection.{TypeDesc, typeDesc, CBufferVariable, CBufferDef, ResourceBinding, ResourceDef}
+use Rattle.reflection.specs.Reflection.{TypeDesc, typeDesc, CBufferVariable, CBufferDef, ResourceBinding, ResourceDef, Rd11, noRd11, rd11, identifierOf, strideOf, slotsOf, majorOf}
 use Rattle.reflection.specs.Texts.{inChunk}
 use Rattle.reflection.specs.Nodes.{Node, nodesOf, typeLevels}
 use Rattle.reflection.specs.Records.{recordWord, joined}
@@ -132,6 +134,16 @@ buffers-back (b ∷ bs) =
     then-some _ (ap check (le-leb (length own) (length (own ++ others)) (omega (arith, length-append own others))))
     (then-some _ (ap (buffersFrom (map bufferRecord bs)) (drop-append-seam own others) ∙ buffers-back bs)
     (ap (λ vs. some (bufferFrom (bufferRecord b) vs ∷ bs)) (take-append-seam own others)))
+
+-- The RD11 words that a reflection of this major has: none for major 4, and their own three words for another. Those of its header are these.
+abbrev pub rd11Of : Bool → Rd11 → Rd11
+rd11Of true words = noRd11
+rd11Of false words = rd11 (identifierOf words) (strideOf words) (slotsOf words)
+
+pub rd11-of-header : (d : ResourceDef Text Text) (four : Bool) → eqb (majorOf (d .target-version)) 4 ≡ four → rd11From (headerOf d) ≡ rd11Of four (d .rd11)
+unfolding rd11From headerOf
+rd11-of-header d true is-four = rw (rd11From, is-four)
+rd11-of-header d false is-four = rw (rd11From, is-four)
 
 module _ (r : ResourceDef Text Text) (nb nf nv nt : ℕ) (fits : TypesFit (allVariables (r .constant-buffers))) (words : r .rd11 ≡ rd11From (headerOf r)) where
   -- Decoding undoes encoding, whatever the roots' nodes say of a member.

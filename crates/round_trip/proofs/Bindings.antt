@@ -20,8 +20,9 @@ use Rattle.writing.specs.Step.{Cell, Pools, _>>=_, return, ahead}
 use Rattle.writing.specs.Records.{bindingWords, bindingSize, wordsIf, rows}
 use Rattle.writing.specs.Layout.{placeOuterName, placeOuterNames}
 use Rattle.writing.specs.Canonical.{bytesOracle}
+use Rattle.writing.proofs.Sizes.{rows-length, binding-words-length, outer-names-length}
 use Rattle.round_trip.specs.RoundTrip.{Words, bindingNumbers}
-use Rattle.round_trip.proofs.Lists.{All, all-weaken, all-to-map, Zip, length-rows}
+use Rattle.round_trip.proofs.Lists.{All, all-weaken, all-to-map, Zip}
 use Rattle.round_trip.proofs.Holds.{bytesOf, WordsAt, inside-bytes, row-word, words-fit, words-split, longer-word}
 use Rattle.round_trip.proofs.Rooms.{Takes, free-then, then-free, returns, check-takes, text-takes, binding-takes}
 use Rattle.round_trip.proofs.Texts.{textIn, nameIn, NameAt}
@@ -33,17 +34,6 @@ pub length-bindingWords : (wide : Bool) (b : ResourceBinding Bytes) (o : ℕ) �
 unfolding bindingWords
 length-bindingWords false b o = refl
 length-bindingWords true b o = refl
-
-count-bindingWords : (wide : Bool) (b : ResourceBinding Bytes) (o : ℕ) → length (bindingWords wide b o) ≡ bindingSize wide
-count-bindingWords wide b o = omega (arith, length-bindingWords wide b o)
-
--- As many offsets as names.
-pub outer-names-length : (ns : List Bytes) (at : ℕ) (ps : Pools Bytes Bytes) → length ns ≡ length (placeOuterNames bytesOracle ns at ps .result)
-unfolding placeOuterNames _>>=_ return
-outer-names-length [] at ps = refl
-outer-names-length (n ∷ ns) at ps =
-    let first = placeOuterName bytesOracle n at ps in
-    ap suc (outer-names-length ns (at + length (first .cells)) (first .pools-after))
 
 pub record BindingAt (cells : List (Cell Bytes Bytes)) (wide : Bool) (b : ResourceBinding Bytes) (o : ℕ) : Type 0 where
   pub fine : ReadableBinding wide b
@@ -139,6 +129,6 @@ module _ (cells : List (Cell Bytes Bytes)) (short : length cells ≤ 65536) (wid
       → Leaves cells sm5 at (ahead (length bs * bindingSize wide) (rows (bindingWords wide) bs) (placeOuterNames bytesOracle (map (λ b. b .name) bs))) (λ os at′. BindingsAt cells wide bs at os)
   bindings-leave sm5 bs fine at =
       ahead-leaves at (length bs * bindingSize wide) (rows (bindingWords wide) bs) (placeOuterNames bytesOracle (map (λ b. b .name) bs))
-      (λ ps. length-rows (bindingWords wide) (bindingSize wide) (count-bindingWords wide) bs _ (sym (length-map bs (λ b. b .name)) ∙ outer-names-length (map (λ b. b .name) bs) _ ps))
+      (λ ps. rows-length (bindingWords wide) (bindingSize wide) (binding-words-length wide) bs _ (outer-names-length bytesOracle (map (λ b. b .name) bs) _ ps ∙ length-map bs (λ b. b .name)))
       (placeOuterNames-leaves cells sm5 (map (λ b. b .name) bs) (all-to-map (λ n. nameReadable n ≡ true) (λ b. b .name) bs (all-weaken (λ b f. f .name) bs fine)) _)
       (λ os at₁ named h. record { all = bindings-named cells wide bs os fine named; stand = h })

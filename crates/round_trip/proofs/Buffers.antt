@@ -21,8 +21,9 @@ use Rattle.writing.specs.Step.{Cell, Pools, _>>=_, return, ahead, wordCells}
 use Rattle.writing.specs.Records.{VariableOffsets, variableWords, variableSize, Section, bufferWords, rows}
 use Rattle.writing.specs.Layout.{zip, placeVariables, placeSection, placeSections, placeOuterNames, placeBufferParts, placeBuffers}
 use Rattle.writing.specs.Canonical.{bytesOracle}
+use Rattle.writing.proofs.Sizes.{rows-length, variable-words-length, buffer-words-length, variables-length, buffer-parts-length}
 use Rattle.round_trip.specs.RoundTrip.{Words, bufferNumbers, placesOf, sectionOffsets}
-use Rattle.round_trip.proofs.Lists.{All, all-weaken, all-to-map, Zip, Zip3, zip3-weaken, zip3-map, zip-length, length-zip, length-rows}
+use Rattle.round_trip.proofs.Lists.{All, all-weaken, all-to-map, Zip, Zip3, zip3-weaken, zip3-map, zip-length}
 use Rattle.round_trip.proofs.Holds.{bytesOf, holds-nothing, WordsAt, inside-bytes, row-word, words-fit}
 use Rattle.round_trip.proofs.Rooms.{plus, Takes, then-takes, free-then, then-free, returns, check-takes, text-takes, buffer-takes}
 use Rattle.round_trip.proofs.Texts.{textIn, nameIn, defaultIn, NameAt}
@@ -30,8 +31,7 @@ use Rattle.round_trip.proofs.Steps.{Leaves, bind-leaves, ahead-leaves, 
 use Rattle.round_trip.proofs.Names.{placeOuterNames-leaves}
 use Rattle.round_trip.proofs.Conditions.{ReadableBuffer}
 use Rattle.round_trip.proofs.Tables.{total, many-read}
-use Rattle.round_trip.proofs.Variables.{length-variableWords, count-variableWords, VariableAt, variableCost, VariableRead, variable-read, placeVariables-leaves, variables-length}
-use Rattle.round_trip.proofs.Bindings.{outer-names-length}
+use Rattle.round_trip.proofs.Variables.{length-variableWords, VariableAt, variableCost, VariableRead, variable-read, placeVariables-leaves}
 
 -- A buffer's variables: their records stand where the section starts.
 pub record SectionAt (cells : List (Cell Bytes Bytes)) (sm5 : Bool) (b : CBufferDef Bytes Bytes) (s : Section) : Type 0 where
@@ -90,9 +90,6 @@ pub length-bufferWords : (b : CBufferDef Bytes Bytes) (o : ℕ × Section) → 4
 unfolding bufferWords
 length-bufferWords b o = refl
 
-count-bufferWords : (b : CBufferDef Bytes Bytes) (o : ℕ × Section) → length (bufferWords b o) ≡ 6
-count-bufferWords b o = omega (arith, length-bufferWords b o)
-
 module _ (cells : List (Cell Bytes Bytes)) (short : length cells ≤ 65536) (sm5 : Bool) where
   pub buffer-read : (b : CBufferDef Bytes Bytes) (o : ℕ × Section) (at : ℕ) → BufferAt cells sm5 b o → WordsAt cells at (bufferWords b o)
       → (p : CBufferDef Text Text) × Takes (readBuffer (bytesOf cells) sm5 at) (bufferCost b) p × BufferRead cells b o p
@@ -132,7 +129,7 @@ module _ (cells : List (Cell Bytes Bytes)) (short : length cells ≤ 65536) (sm5
       (λ os at′. SectionAt cells sm5 b (record { start = at; offsets = os }))
   section-leaves b fine at =
       ahead-leaves at (length (b .variables) * variableSize sm5) (rows (variableWords sm5) (b .variables)) (placeVariables bytesOracle sm5 (eqb (b .cb-type) 0) (b .variables))
-      (λ ps. length-rows (variableWords sm5) (variableSize sm5) (count-variableWords sm5) (b .variables) _ (variables-length sm5 (eqb (b .cb-type) 0) (b .variables) _ ps))
+      (λ ps. rows-length (variableWords sm5) (variableSize sm5) (variable-words-length sm5) (b .variables) _ (variables-length bytesOracle sm5 (eqb (b .cb-type) 0) (b .variables) _ ps))
       (placeVariables-leaves cells short sm5 (b .variables) (fine .variables) (eqb (b .cb-type) 0) _)
       (λ os at₁ all h. record { stands = h; variables = all })
 
@@ -171,23 +168,6 @@ module _ (cells : List (Cell Bytes Bytes)) (short : length cells ≤ 65536) (sm5
       bind-leaves (placeSections-leaves bs fine at₁) λ ss at₂ le₂ sections.
       return-leaves (zip os ss) (buffers-joined bs os ss fine named sections)
 
--- As many offsets as buffers.
-sections-length : (sm5 : Bool) (bs : List (CBufferDef Bytes Bytes)) (at : ℕ) (ps : Pools Bytes Bytes) → length bs ≡ length (placeSections bytesOracle sm5 bs at ps .result)
-unfolding placeSections _>>=_ return
-sections-length sm5 [] at ps = refl
-sections-length sm5 (b ∷ bs) at ps =
-    let first = placeSection bytesOracle sm5 b at ps in
-    ap suc (sections-length sm5 bs (at + length (first .cells)) (first .pools-after))
-
-buffer-parts-length : (sm5 : Bool) (bs : List (CBufferDef Bytes Bytes)) (at : ℕ) (ps : Pools Bytes Bytes) → length bs ≡ length (placeBufferParts bytesOracle sm5 bs at ps .result)
-unfolding placeBufferParts _>>=_ return
-buffer-parts-length sm5 bs at ps =
-    let names = placeOuterNames bytesOracle (map (λ b. b .name) bs) at ps in
-    let sections = placeSections bytesOracle sm5 bs (at + length (names .cells)) (names .pools-after) in
-    let e₁ : length bs ≡ length (names .result) = sym (length-map bs (λ b. b .name)) ∙ outer-names-length (map (λ b. b .name) bs) at ps in
-    let e₂ : length bs ≡ length (sections .result) = sections-length sm5 bs (at + length (names .cells)) (names .pools-after) in
-    e₁ ∙ length-zip (names .result) (sections .result) (sym e₁ ∙ e₂)
-
 -- The buffers' records stand at an offset, and what they hold where they say.
 pub record BuffersAt (cells : List (Cell Bytes Bytes)) (sm5 : Bool) (bs : List (CBufferDef Bytes Bytes)) (placed : ℕ × List (ℕ × Section)) : Type 0 where
   pub all : Zip (BufferAt cells sm5) bs (placed .1)
@@ -198,7 +178,7 @@ module _ (cells : List (Cell Bytes Bytes)) (short : length cells ≤ 65536) (sm5
       → Leaves cells sm5 at (ahead (length bs * 6) (rows bufferWords bs) (placeBufferParts bytesOracle sm5 bs)) (λ os at′. BuffersAt cells sm5 bs (at, os))
   records-leave bs fine at =
       ahead-leaves at (length bs * 6) (rows bufferWords bs) (placeBufferParts bytesOracle sm5 bs)
-      (λ ps. length-rows bufferWords 6 count-bufferWords bs _ (buffer-parts-length sm5 bs _ ps))
+      (λ ps. rows-length bufferWords 6 buffer-words-length bs _ (buffer-parts-length bytesOracle sm5 bs _ ps))
       (placeBufferParts-leaves cells short sm5 bs fine _)
       (λ os at₁ all h. record { all = all; stand = h })
 

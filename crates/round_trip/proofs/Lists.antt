@@ -86,20 +86,6 @@ zip3-map f g (x ∷ xs) [] ps h = absurd h
 zip3-map f g (x ∷ xs) (b ∷ bs) [] h = absurd h
 zip3-map f g (x ∷ xs) (b ∷ bs) (p ∷ ps) h = let q = zip3-map f g xs bs ps (h .1) in λ i. h .0 i ∷ q i
 
-pub length-zip : {A B : Type 0} (xs : List A) (ys : List B) → length xs ≡ length ys → length xs ≡ length (zip xs ys)
-unfolding zip
-length-zip [] ys e = refl
-length-zip (x ∷ xs) [] e = absurd (omega arith)
-length-zip (x ∷ xs) (y ∷ ys) e = ap suc (length-zip xs ys (omega arith))
-
--- Rows of one size.
-pub length-rows : {A B : Type 0} (row : A → B → List ℕ) (size : ℕ) → ((a : A) (b : B) → length (row a b) ≡ size)
-    → (xs : List A) (bs : List B) → length xs ≡ length bs → length (rows row xs bs) ≡ length xs * size
-unfolding rows
-length-rows row size len [] bs e = omega arith
-length-rows row size len (x ∷ xs) [] e = absurd (omega arith)
-length-rows row size len (x ∷ xs) (b ∷ bs) e = length-append (row x b) (rows row xs bs) ∙ omega (arith, len x b, length-rows row size len xs bs (omega arith))
-
 pub zip-length : {A B : Type 0} (Q : A → B → Type 0) (xs : List A) (bs : List B) → Zip Q xs bs → length bs ≡ length xs
 zip-length Q [] [] h = refl
 zip-length Q [] (b ∷ bs) h = absurd h

@@ -35,9 +35,6 @@ unfolding variableWords
 length-variableWords false v o = refl
 length-variableWords true v o = refl
 
-pub count-variableWords : (sm5 : Bool) (v : CBufferVariable Bytes Bytes) (o : VariableOffsets) → length (variableWords sm5 v o) ≡ variableSize sm5
-count-variableWords sm5 v o = omega (arith, length-variableWords sm5 v o)
-
 -- What a variable's offsets lead to.
 pub record VariableAt (cells : List (Cell Bytes Bytes)) (sm5 : Bool) (v : CBufferVariable Bytes Bytes) (o : VariableOffsets) : Type 0 where
   pub fine : ReadableVariable sm5 v
@@ -145,12 +142,3 @@ module _ (cells : List (Cell Bytes Bytes)) (short : length cells ≤ 65536) (sm5
       bind-leaves (placeVariable-leaves v (fine .0) share at) λ o at₁ le₁ there.
       bind-leaves (placeVariables-leaves vs (fine .1) share at₁) λ os at₂ le₂ others.
       return-leaves (o ∷ os) (there, others)
-
--- As many offsets as variables.
-pub variables-length : (sm5 share : Bool) (vs : List (CBufferVariable Bytes Bytes)) (at : ℕ) (ps : Pools Bytes Bytes)
-    → length vs ≡ length (placeVariables bytesOracle sm5 share vs at ps .result)
-unfolding placeVariables _>>=_ return
-variables-length sm5 share [] at ps = refl
-variables-length sm5 share (v ∷ vs) at ps =
-    let first = placeVariable bytesOracle sm5 share v at ps in
-    ap suc (variables-length sm5 share vs (at + length (first .cells)) (first .pools-after))

@@ -13,6 +13,5 @@ mod OneSection
 mod SectionRoom
 mod SectionsLoop
 mod AllBuffers
-mod Version
 mod Beginning
 mod AllChunk

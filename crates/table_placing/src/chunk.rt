@@ -2,8 +2,6 @@
 ghost use mathlib.Core.Path.{_≡_};
 ghost use Prim.Native.Nat.{_+_, _*_, _≤_};
 ghost use lib.ListN.{length};
-ghost use Rattle.reflection.specs.Reflection.{isSm5, isWide};
-ghost use Rattle.reflection.specs.Decode.{rd11From};
 ghost use Rattle.writing.specs.Records.{bindingSize, headerSize};
 ghost use Rattle.placing.specs.Scratch.{scratchEnd};
 ghost use Rattle.placing.specs.Pooling.{Short};
@@ -20,26 +18,6 @@ const BINDINGS_START: usize = 94336;
 
 // How many words a record of the bindings' table has.
 const BINDING_WORDS: usize = 12;
-
-// Whether the chunk is of major 5.
-fn is_sm5(def: ResourceDef) -> bool
-    ensures { λ r. ⌜ r ≡ isSm5 (rd11From def) ⌝ }
-{
-    if def.target_version / 256 % 256 == 4 {
-        return false;
-    }
-    true
-}
-
-// Whether the bindings' records have space and id.
-fn is_wide(def: ResourceDef) -> bool
-    ensures { λ r. ⌜ r ≡ isWide (rd11From def) ⌝ }
-{
-    if def.target_version / 256 % 256 == 4 {
-        return false;
-    }
-    def.rd11.resource_binding_stride == 40
-}
 
 // How many words a binding's record and the header take in the chunk.
 fn binding_size(wide: bool) -> usize
@@ -82,8 +60,8 @@ pub fn write_chunk<'a>(
     ensures { λ r. ⌜ ChunkWritten (now (chunk .entry)) (now (edits .entry)) def (now (bindings .entry)) (now (buffers .entry)) (now (variables .entry)) (now (types .entry)) (now (s .entry)) (now (s .exit)) (now (out .entry)) (now (out .exit)) r ⌝ }
 {
     begin_pools(s);
-    let sm5 = is_sm5(def);
-    let wide = is_wide(def);
+    let sm5 = readable::is_sm5(def);
+    let wide = readable::is_wide(def);
     let start = 4 * header_size(sm5);
     let count = def.binding_count as usize;
     let named = place_outer_names(
