@@ -9,7 +9,6 @@ use lib.Dec.{eqb, leb}
 use lib.ListN.{length, drop, getD, drop-of-length-le}
 use lib.Seq.{drop-cons}
 use Rattle.words.specs.Parts.{inside, part}
-use Rattle.text.specs.Strings.{withoutNul}
 use Rattle.reflection.specs.declared.Text.{Text}
 use Rattle.reflection.specs.declared.ResourceBinding.{ResourceBinding as BindingRecord}
 use Rattle.reflection.specs.declared.CBufferDef.{CBufferDef as BufferRecord}
@@ -127,21 +126,6 @@ module _ (chunk edits : Bytes) where
     pub buffer-passes : nameHeld chunk edits (b .name) ≡ true → b .«variable_count» ≤ left
         → buffersHeld chunk edits t i n left ≡ buffersHeld chunk edits t (i + 1) (n - 1) (left - b .«variable_count»)
     buffer-passes e h = next-buffer ∙ (λ j. e j && (le-leb (b .«variable_count») left h j && buffersHeld chunk edits t (i + 1) (n - 1) (left - b .«variable_count»)))
-
--- The bytes from i on: none is NUL.
-pub nul-at : (s : List ℕ) (i : ℕ) → i < length s → getD s i 0 ≡ 0 → withoutNul (drop i s) ≡ false
-unfolding withoutNul
-nul-at s i h e = ap withoutNul (drop-cons s i 0 h) ∙ ap (λ b. not b && withoutNul (drop (suc i) s)) (eq-eqb (getD s i 0) 0 e)
-
-pub no-nul-at : (s : List ℕ) (i : ℕ) → i < length s → (getD s i 0 ≡ 0 → ⊥) → withoutNul (drop i s) ≡ withoutNul (drop (i + 1) s)
-unfolding withoutNul
-no-nul-at s i h e =
-    let next : suc i ≡ i + 1 = omega arith in
-    ap withoutNul (drop-cons s i 0 h) ∙ ap (λ b. not b && withoutNul (drop (suc i) s)) (ne-eqb (getD s i 0) 0 e) ∙ ap (λ k. withoutNul (drop k s)) next
-
-pub no-bytes-left : (s : List ℕ) (i : ℕ) → length s ≤ i → withoutNul (drop i s) ≡ true
-unfolding withoutNul
-no-bytes-left s i h = ap withoutNul (drop-of-length-le s h)
 
 -- A name by its source.
 module _ (chunk edits : Bytes) (t : Text) where

@@ -24,7 +24,13 @@ fn binding_readable(chunk: &[u8], edits: &[u8], wide: bool, b: ResourceBinding) 
 }
 
 // Whether the first `count` bindings are readable.
-pub(crate) fn bindings_readable(chunk: &[u8], edits: &[u8], wide: bool, table: &[u32], count: u32) -> bool
+pub(crate) fn bindings_readable(
+    chunk: &[u8],
+    edits: &[u8],
+    wide: bool,
+    table: &[u32],
+    count: u32,
+) -> bool
     ensures { λ r. ⌜ r ≡ bindingsHeld (now (chunk .entry)) (now (edits .entry)) wide (now (table .entry)) 0 count ⌝ }
 {
     let mut i: usize = 0;

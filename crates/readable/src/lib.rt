@@ -14,7 +14,6 @@ mod variables;
 
 pub use header::is_sm5;
 pub use header::is_wide;
-
 use reflection::ResourceDef;
 
 // What the walk over a type's nodes answers: the node after them, or that a test failed.

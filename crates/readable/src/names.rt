@@ -3,27 +3,12 @@ ghost use mathlib.Core.Path.{_≡_};
 ghost use mathlib.Core.Bool.{_&&_};
 ghost use lib.ListN.{length};
 ghost use Rattle.words.specs.Parts.{inside, part};
-ghost use Rattle.text.specs.Strings.{withoutNul};
 ghost use Rattle.readable.specs.Readable.{nameReadable};
 ghost use Rattle.readable.specs.Checks.{nameHeld, defaultHeld};
 use crate::both;
 use crate::either;
 use crate::same;
 use reflection::Text;
-
-// Whether no byte is NUL.
-fn without_nul(s: &[u8]) -> bool
-    ensures { λ r. ⌜ r ≡ withoutNul (now (s .entry)) ⌝ }
-{
-    let mut i = 0;
-    while i < s.len() {
-        if s[i] == 0 {
-            return false;
-        }
-        i += 1;
-    }
-    true
-}
 
 // Whether n bytes from `place` on lie in the buffer and are UTF-8 without NUL.
 fn part_readable(s: &[u8], place: usize, n: usize) -> bool
@@ -32,7 +17,7 @@ fn part_readable(s: &[u8], place: usize, n: usize) -> bool
     let bytes = words::part(s, place, n);
     both(
         words::inside(s.len(), place, n),
-        both(without_nul(bytes), text::utf8_ok(bytes)),
+        both(text::without_nul(bytes), text::utf8_ok(bytes)),
     )
 }
 

@@ -6,3 +6,4 @@ pub mod Strings
 pub mod Written
 pub mod SameBytes
 pub mod Examples
+pub mod Neighbours

@@ -43,7 +43,7 @@ well-formed-append xs ys p q =
     ap whole (run-append (Left.columns []) xs ys ∙ ap (λ (l : Left). run l ys) (whole-is-none (run (Left.columns []) xs) p)) ∙ q
 
 -- between two sequences a byte below 0x80 is a sequence of its own
-begun-ascii : (b : ℕ) → b < 0x80 → begun table37 b ≡ Left.columns []
+pub begun-ascii : (b : ℕ) → b < 0x80 → begun table37 b ≡ Left.columns []
 begun-ascii b h = rw (le-leb 0 b zero-le, le-leb b 0x7f (omega arith))
 
 pub run-ascii-byte : (s : List ℕ) (i : ℕ) → i < length s → getD s i 0 < 0x80

@@ -1,13 +1,14 @@
 -- `sameBytes` is true exactly where the two lists are equal: by the lists, one byte of each at a time.
 use mathlib.Core.Path.{_≡_, refl, ap, subst}
-use mathlib.Core.Bool.{true, false}
+use mathlib.Core.Bool.{true, false, _&&_}
 use mathlib.Core.List.{List, [], _∷_}
 use mathlib.Core.Logic.{_↔_}
-use Prim.Native.Nat.{ℕ, _<_}
+use Prim.Native.Nat.{ℕ, _+_, _<_, _≤_}
+use native.Mathlib.Numerals.{add-one}
 use borrow.Author.Tests.{eq-eqb, eqb-true}
 use lib.Dec.{eqb}
-use lib.ListN.{length, getD}
-use lib.Seq.{ext-getD}
+use lib.ListN.{length, getD, drop, drop-of-length-le}
+use lib.Seq.{ext-getD, drop-cons}
 use Rattle.text.specs.Same.{sameBytes}
 use Rattle.text.proofs.Bools.{and-true, false-unless}
 
@@ -43,3 +44,13 @@ other-byte xs ys i h = false-unless (sameBytes xs ys) (λ e. h (ap (λ (l : List
 -- lists as long that agree at every index are the same
 pub all-bytes : (xs ys : List ℕ) → length xs ≡ length ys → ((k : ℕ) → k < length xs → getD xs k 0 ≡ getD ys k 0) → sameBytes xs ys ≡ true
 all-bytes xs ys h e = equal-same-bytes xs ys (ext-getD 0 xs ys h e)
+
+-- the bytes from i on: those at i, then those from i + 1 on; past both ends there are none
+pub same-bytes-from : (xs ys : List ℕ) (i : ℕ) → i < length xs → i < length ys
+    → sameBytes (drop i xs) (drop i ys) ≡ (eqb (getD xs i 0) (getD ys i 0) && sameBytes (drop (i + 1) xs) (drop (i + 1) ys))
+unfolding sameBytes
+same-bytes-from xs ys i h g = rw (drop-cons xs i 0 h, drop-cons ys i 0 g, add-one i)
+
+pub same-bytes-past : (xs ys : List ℕ) (i : ℕ) → length xs ≤ i → length ys ≤ i → sameBytes (drop i xs) (drop i ys) ≡ true
+unfolding sameBytes
+same-bytes-past xs ys i h g = rw (drop-of-length-le xs h, drop-of-length-le ys g)

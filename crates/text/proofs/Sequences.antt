@@ -53,10 +53,10 @@ lefts-equal (Left.columns xs) Left.illFormed t = absurd t
 lefts-equal (Left.columns xs) (Left.columns ys) t = ap Left.columns (spans-equal xs ys t)
 
 -- what the numbers say of a first byte
-abbrev awaitsAfter : ℕ → Left
+abbrev pub awaitsAfter : ℕ → Left
 awaitsAfter b = awaits (tailsAfter b) (lowestAfter b) (highestAfter b)
 
-byNumbers : ℕ → Left
+unfoldable pub byNumbers : ℕ → Left
 byNumbers b = cond (eqb (tailsAfter b) 0) Left.illFormed (awaitsAfter b)
 
 agrees : ℕ → Bool
@@ -67,7 +67,7 @@ table-agrees : T (allOf agrees 0x80 0x80)
 unfolding agrees byNumbers tailsAfter lowestAfter highestAfter
 table-agrees = tt
 
-begun-by-numbers : (b : ℕ) → 0x80 ≤ b → b < 256 → begun table37 b ≡ byNumbers b
+pub begun-by-numbers : (b : ℕ) → 0x80 ≤ b → b < 256 → begun table37 b ≡ byNumbers b
 unfolding agrees
 begun-by-numbers b h g = lefts-equal (begun table37 b) (byNumbers b) (at-each agrees 0x80 0x80 table-agrees b h g)
 
@@ -93,11 +93,11 @@ module _ (s : List ℕ) (at left : ℕ) (in-s : at < length s) (from-80 : 0x80 �
       rw (is-left, is-low, is-high) (sym (numbered false (ne-eqb (tailsAfter (getD s at 0)) 0 (λ z. e (is-left ∙ z)))))
 
 -- after one byte of a sequence the rest are tails
-awaits-tails : (left : ℕ) → Left.columns (replicate left tail) ≡ awaits left 0x80 0xbf
+pub awaits-tails : (left : ℕ) → Left.columns (replicate left tail) ≡ awaits left 0x80 0xbf
 awaits-tails zero = refl
 awaits-tails (suc left) = refl
 
-awaits-not-whole : (left low high : ℕ) → 0 < left → whole (awaits left low high) ≡ false
+pub awaits-not-whole : (left low high : ℕ) → 0 < left → whole (awaits left low high) ≡ false
 awaits-not-whole zero low high h = absurd (omega arith)
 awaits-not-whole (suc left) low high h = refl
 

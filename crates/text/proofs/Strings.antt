@@ -1,17 +1,18 @@
 -- The scan for a NUL, byte by byte, and what its end says of the string.
 use mathlib.Core.Path.{_≡_, sym, ap, _∙_}
-use mathlib.Core.Bool.{Bool, true, false}
+use mathlib.Core.Bool.{Bool, true, false, not, _&&_}
 use mathlib.Core.List.{List}
 use Prim.Native.Nat.{ℕ, _+_, _-_, _<_, _≤_}
 use native.Mathlib.Numerals.{add-one}
 use native.Mathlib.Omega.{arith}
 use borrow.Author.Count.{below-more}
 use borrow.Author.Tests.{eq-eqb, ne-eqb}
+use lib.Dec.{eqb}
 use lib.ListN.{length, getD, take, drop, drop-of-length-le, length-drop}
 use lib.Seq.{drop-cons, getD-take, getD-drop, length-take-le}
 use Rattle.text.specs.declared.Found.the-variants.{At, Bad}
 use Rattle.text.specs.Utf8.{wellFormed}
-use Rattle.text.specs.Strings.{untilNul, ifWellFormed, cstringAt}
+use Rattle.text.specs.Strings.{untilNul, ifWellFormed, cstringAt, withoutNul}
 use Rattle.text.proofs.Runs.{well-formed-ascii}
 
 -- The scan at index i, n bytes after the string's place.
@@ -59,3 +60,13 @@ module _ (s : List ℕ) (place i : ℕ) (flag : Bool) where
 
   pub flag-kept : (was : Bool) → flag ≡ was → (was ≡ true → AsciiFrom s place i) → getD s i 0 < 0x80 → flag ≡ true → AsciiFrom s place (i + 1)
   flag-kept was e below h f = below-more _ _ (below (sym e ∙ f)) (λ g. h)
+
+-- Whether bytes from i on are NUL: the one at i, then those from i + 1 on; past the end there are none.
+module _ (s : List ℕ) (i : ℕ) where
+  pub without-nul-here : i < length s → withoutNul (drop i s) ≡ (not (eqb (getD s i 0) 0) && withoutNul (drop (i + 1) s))
+  unfolding withoutNul
+  without-nul-here h = rw (drop-cons s i 0 h, add-one i)
+
+  pub without-nul-past : length s ≤ i → withoutNul (drop i s) ≡ true
+  unfolding withoutNul
+  without-nul-past h = rw (drop-of-length-le s h)

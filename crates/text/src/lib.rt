@@ -4,7 +4,8 @@ ghost use Prim.Native.Nat.{_<_, _≤_};
 ghost use lib.ListN.{length};
 ghost use Rattle.text.specs.Utf8.{wellFormed};
 ghost use Rattle.text.specs.Sequences.{tailsAfter, lowestAfter, highestAfter, SequenceEnd};
-ghost use Rattle.text.specs.Strings.{cstringAt, Within};
+ghost use Rattle.text.specs.Neighbours.{tailDue, fits};
+ghost use Rattle.text.specs.Strings.{cstringAt, withoutNul, Within};
 ghost use Rattle.text.specs.Same.{sameBytes};
 
 // Bytes that an offset leads to: their place and length, or that they are bad.
@@ -99,8 +100,25 @@ fn sequence_at(s: &[u8], at: usize) -> Sequence
     Sequence::To(i)
 }
 
-// Whether the bytes are well-formed UTF-8.
-pub fn utf8_ok(s: &[u8]) -> bool
+// Whether a sequence that one of three bytes began goes on after them.
+fn tail_due(p3: u8, p2: u8, p1: u8) -> bool
+    ensures { λ r. ⌜ r ≡ tailDue p3 p2 p1 ⌝ }
+{
+    (p1 >= 0xc0) | (p2 >= 0xe0) | (p3 >= 0xf0)
+}
+
+// Whether a byte fits after the three before it.
+fn fits(p3: u8, p2: u8, p1: u8, b: u8) -> bool
+    ensures { λ r. ⌜ r ≡ fits p3 p2 p1 b ⌝ }
+{
+    let due = tail_due(p3, p2, p1);
+    let follows = (lowest_after(p1) <= b) & (b <= highest_after(p1));
+    let begins = (b < 0x80) | ((b >= 0xc2) & (b < 0xf5));
+    if due { follows } else { begins }
+}
+
+// Whether bytes are well-formed UTF-8: sequence by sequence, which is quick where most bytes are below 0x80.
+fn short_utf8_ok(s: &[u8]) -> bool
     ensures { λ r. ⌜ r ≡ wellFormed (now (s .entry)) ⌝ }
 {
     let mut i = 0;
@@ -116,6 +134,31 @@ pub fn utf8_ok(s: &[u8]) -> bool
         }
     }
     true
+}
+
+// The same, byte by byte with the three before each. No byte ends the loop, so that it is compiled to steps of sixteen bytes.
+fn long_utf8_ok(s: &[u8]) -> bool
+    requires { ⌜ 3 ≤ length (now s) ⌝ }
+    ensures { λ r. ⌜ r ≡ wellFormed (now (s .entry)) ⌝ }
+{
+    let mut ok = fits(0, 0, 0, s[0]) & fits(0, 0, s[0], s[1]) & fits(0, s[0], s[1], s[2]);
+    let mut i = 3;
+    while i < s.len() {
+        ok = ok & fits(s[i - 3], s[i - 2], s[i - 1], s[i]);
+        i += 1;
+    }
+    let n = s.len();
+    ok & !tail_due(s[n - 3], s[n - 2], s[n - 1])
+}
+
+// Whether the bytes are well-formed UTF-8.
+pub fn utf8_ok(s: &[u8]) -> bool
+    ensures { λ r. ⌜ r ≡ wellFormed (now (s .entry)) ⌝ }
+{
+    if s.len() < 64 {
+        return short_utf8_ok(s);
+    }
+    long_utf8_ok(s)
 }
 
 // The string at an offset, up to its NUL. Bytes below 0x80 are well-formed as they are, so that most strings need no second pass.
@@ -143,6 +186,20 @@ pub fn cstring_at(s: &[u8], at: usize) -> Found
     Found::Bad
 }
 
+// Whether two texts of one length have the same bytes. No byte ends the loop, so that it is compiled to steps of sixteen bytes and more.
+fn same_bytes(a: &[u8], b: &[u8]) -> bool
+    requires { ⌜ length (now a) ≡ length (now b) ⌝ }
+    ensures { λ r. ⌜ r ≡ sameBytes (now (a .entry)) (now (b .entry)) ⌝ }
+{
+    let mut same = true;
+    let mut i = 0;
+    while i < a.len() {
+        same = same & (a[i] == b[i]);
+        i += 1;
+    }
+    same
+}
+
 // Whether two texts have the same bytes.
 pub fn same_text(a: &[u8], b: &[u8]) -> bool
     ensures { λ r. ⌜ r ≡ sameBytes (now (a .entry)) (now (b .entry)) ⌝ }
@@ -150,12 +207,18 @@ pub fn same_text(a: &[u8], b: &[u8]) -> bool
     if a.len() != b.len() {
         return false;
     }
+    same_bytes(a, b)
+}
+
+// Whether no byte is NUL. No byte ends the loop, as above.
+pub fn without_nul(s: &[u8]) -> bool
+    ensures { λ r. ⌜ r ≡ withoutNul (now (s .entry)) ⌝ }
+{
+    let mut without = true;
     let mut i = 0;
-    while i < a.len() {
-        if a[i] != b[i] {
-            return false;
-        }
+    while i < s.len() {
+        without = without & (s[i] != 0);
         i += 1;
     }
-    true
+    without
 }

@@ -6,9 +6,10 @@ use mathlib.Core.Bool.{Bool, true, false}
 use mathlib.Core.Path.{_≡_}
 use mathlib.Core.List.{List, [], _∷_}
 use mathlib.Core.Option.{Option, none, some}
-use Prim.Native.Nat.{ℕ, zero, suc, _+_, _*_, _%_, _<_, _≤_}
+use Prim.Native.Nat.{ℕ, zero, suc, _+_, _*_, _/_, _%_, _<_, _≤_}
 use lib.Dec.{eqb}
 use lib.ListN.{length, getD}
+use Rattle.words.specs.Words.{wordAt}
 use Rattle.reflection.specs.declared.Text.{Text}
 use Rattle.reflection.specs.Records.{textAt}
 use Rattle.reflection.specs.Texts.{textBytes}
@@ -25,13 +26,14 @@ entriesStart = 1025
 abbrev pub entryWidth : ℕ
 entryWidth = 5
 
--- The bucket of a text's bytes. Any function of the bytes would do.
-unfoldable pub hashFrom : List ℕ → ℕ → ℕ
-hashFrom [] h = h
-hashFrom (b ∷ bs) h = hashFrom bs ((h * 31 + b) % 65536)
+-- The hash of the first n words of a text's bytes. What lies past the end of the last word counts as 0.
+unfoldable pub hashOf : List ℕ → ℕ → ℕ
+hashOf bytes zero = 0
+hashOf bytes (suc n) = (hashOf bytes n * 31 + wordAt bytes (n * 4)) % 4294967296
 
+-- The bucket of a text's bytes. Any function of the bytes would do; the remainder by a prime depends on every bit of the hash.
 unfoldable pub bucketOf : List ℕ → ℕ
-bucketOf bytes = hashFrom bytes 0 % bucketCount
+bucketOf bytes = hashOf bytes ((length bytes + 3) / 4) % 65521 % bucketCount
 
 -- Entry i: its text, its offset, its link.
 unfoldable pub entryText : List ℕ → ℕ → Text

@@ -76,10 +76,13 @@ fn same_numbers(x: TypeDesc, y: TypeDesc) -> bool
     x.extra3 == y.extra3
 }
 
-// Whether two names have the same bytes.
+// Whether two names have the same bytes. Names in one place, as of types that were read from one descriptor, need no look at the bytes.
 pub fn same_name<'a>(chunk: &'a [u8], edits: &'a [u8], x: Text, y: Text) -> bool
     ensures { λ r. ⌜ r ≡ sameName (now (chunk .entry)) (now (edits .entry)) x y ⌝ }
 {
+    if (x.source == y.source) & (x.place == y.place) & (x.length == y.length) {
+        return true;
+    }
     let a = reflection::name_part(chunk, edits, x);
     let b = reflection::name_part(chunk, edits, y);
     text::same_text(a, b)

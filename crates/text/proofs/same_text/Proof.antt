@@ -1,63 +1,18 @@
--- `text::same_text` meets its contract. The invariant of its loop: the bytes below i agree.
-use mathlib.Core.Path.{_≡_, sym}
-use Prim.Native.Nat.{ℕ, _≤_, _<_, _-_}
-use native.Mathlib.Omega.{arith}
-use borrow.Author.Count.{below-more}
+-- `text::same_text` meets its contract.
+use mathlib.Core.Path.{sym}
 use borrow.Author.Needs.{needs}
-use lib.ListN.{length, getD}
-use Rattle.text.proofs.SameBytes.{other-length, other-byte, all-bytes}
+use Rattle.text.proofs.SameBytes.{other-length}
 use Rattle.text.proofs.same_text.Statement.{statement}
 use Rattle.text.proofs.same_text.Tie as tie
 
-abbrev Inv-loop : tie.InvT-loop
-Inv-loop a b i₀ i = (i ≤ length a) × ((k : ℕ) → k < i → getD a k 0 ≡ getD b k 0)
+returns : tie.Need-returns
+returns c = sym (other-length (c .before .before .before .args .a .now) (c .before .before .before .args .b .now) (c .if1 .taken))
 
-abbrev μ-loop : tie.MeasureT-loop
-μ-loop a b i₀ i = length a - i
+same-bytes-requires : tie.Need-same-bytes-requires
+same-bytes-requires c κs = search needs
 
-returns : tie.Need-returns Inv-loop μ-loop
-returns c = sym (other-length (c .before .args .a .now) (c .before .args .b .now) (c .if1 .taken))
-
-loop-holds : tie.Need-loop-holds Inv-loop μ-loop
-loop-holds c = search needs
-
-shared-slice-read-if2 : tie.Need-shared-slice-read-if2 Inv-loop μ-loop
-shared-slice-read-if2 c = search needs
-
-shared-slice-read-if2-2 : tie.Need-shared-slice-read-if2-2 Inv-loop μ-loop
-shared-slice-read-if2-2 c = search needs
-
-returns-2 : tie.Need-returns-2 Inv-loop μ-loop
-returns-2 c =
-    let start = c .before .before .before .before .before .before in
-    sym (other-byte (start .args .a .now) (start .args .b .now) (c .before .before .before .before .loop .i) (c .if2 .taken))
-
-add-i : tie.Need-add-i Inv-loop μ-loop
-add-i c = search needs
-
-loop-less : tie.Need-loop-less Inv-loop μ-loop
-loop-less c = search needs
-
-loop-again : tie.Need-loop-again Inv-loop μ-loop
-loop-again c = (omega arith, below-more _ _ (c .before .before .before .before .loop .inv .1) (c .if2 .left))
-
-returns-3 : tie.Need-returns-3 Inv-loop μ-loop
-returns-3 c =
-    let start = c .before .before .before in
-    sym (all-bytes (start .args .a .now) (start .args .b .now) (c .before .before .if1 .left) (λ k h. c .before .loop .inv .1 k (omega arith)))
+returns-2 : tie.Need-returns-2
+returns-2 c = search needs
 
 pub same-text-spec : {M : Type 1} → statement M
-same-text-spec =
-    tie.close
-    (tie.spec
-    Inv-loop
-    μ-loop
-    returns
-    loop-holds
-    shared-slice-read-if2
-    shared-slice-read-if2-2
-    returns-2
-    add-i
-    loop-less
-    loop-again
-    returns-3)
+same-text-spec = tie.close (tie.spec returns same-bytes-requires returns-2)

@@ -1,4 +1,4 @@
--- `text::utf8_ok` meets its contract. The invariant of its loop: i stands between two sequences, and the bytes from i on decide.
+-- `text::short_utf8_ok` meets its contract. The invariant of its loop: i stands between two sequences, and the bytes from i on decide.
 use mathlib.Core.Path.{_≡_, refl, sym, ap, subst, _∙_}
 use mathlib.Core.List.{[]}
 use Prim.Native.Nat.{_≤_, _-_}
@@ -8,8 +8,8 @@ use lib.ListN.{length, drop}
 use Rattle.text.specs.Utf8.{Left, run, whole, wellFormed}
 use Rattle.text.specs.Sequences.{SequenceEnd}
 use Rattle.text.proofs.Runs.{run-end}
-use Rattle.text.proofs.utf8_ok.Statement.{statement}
-use Rattle.text.proofs.utf8_ok.Tie as tie
+use Rattle.text.proofs.short_utf8_ok.Statement.{statement}
+use Rattle.text.proofs.short_utf8_ok.Tie as tie
 
 abbrev Inv-loop : tie.InvT-loop
 Inv-loop s i₀ i = (i ≤ length s) × (run (Left.columns []) (drop i s) ≡ run (Left.columns []) s)
@@ -57,8 +57,8 @@ returns-2 c =
     let turn = c .before .loop in
     ap whole (sym (run-end (Left.columns []) s (turn .i) (omega arith)) ∙ turn .inv .1)
 
-pub utf8-ok-spec : {M : Type 1} → statement M
-utf8-ok-spec =
+pub short-utf8-ok-spec : {M : Type 1} → statement M
+short-utf8-ok-spec =
     tie.close
     (tie.spec
     Inv-loop
