@@ -1,8 +1,10 @@
 //! Holds a reader with lent tables to rdef.rs and to the model, to the last word.
 
+use crate::comparison::{ensure, hex, Comparison, Tally};
 use crate::generate::rng::Rng;
+use crate::generate::{fixed_chunks, Generator, Kind};
 use crate::port::Reader;
-use crate::tables::{Answer, Rooms, LIMITS, WIDTHS};
+use crate::tables::{Answer, Rooms, LIMITS, TABLE_NAMES, WIDTHS};
 use crate::{model, words};
 
 /// Words on both sides of a lent table that must stay as they are.
@@ -30,14 +32,14 @@ pub struct Checker {
     tables: [Vec<u32>; 4],
     /// How many answers were 0 (read) and each refusal number.
     pub counts: [u64; 16],
-    pub compared: u64,
-    pub different: u64,
-    /// The first difference, in words.
-    pub first: Option<String>,
+    pub tally: Tally,
 }
 
-impl Checker {
-    pub fn new(reader: Reader) -> Checker {
+impl Comparison for Checker {
+    type Functions = Reader;
+    const CASES: &'static str = "chunks";
+
+    fn new(reader: Reader) -> Checker {
         let table = |index: usize| vec![0; LIMITS[index] * WIDTHS[index] + 64 + 2 * GUARD];
         Checker {
             reader,
@@ -45,12 +47,41 @@ impl Checker {
             header: vec![0; 12 + 2 * GUARD],
             tables: std::array::from_fn(table),
             counts: [0; 16],
-            compared: 0,
-            different: 0,
-            first: None,
+            tally: Tally::default(),
         }
     }
 
+    fn tally(&self) -> &Tally {
+        &self.tally
+    }
+
+    fn report(&self) -> String {
+        let mut lines = format!("read {}\n", self.counts[0]);
+        for number in 1..16 {
+            lines += &format!("refused {number} {}\n", self.counts[number]);
+        }
+        lines + &self.tally.to_string()
+    }
+
+    fn compare_fixed(&mut self, rng: &mut Rng) {
+        for fixed in fixed_chunks() {
+            for lending in [Lending::Full, Lending::Over, Lending::Enough, Lending::Short, Lending::Small] {
+                self.compare(&fixed.name, &fixed.bytes, lending, rng);
+            }
+        }
+    }
+
+    fn compare_fresh(&mut self, count: u64, seed: u64, rng: &mut Rng) {
+        let generator = Generator::new(seed);
+        for number in 0..count {
+            let (kind, chunk) = generator.chunk(number);
+            let lending = some_lending(kind, rng);
+            self.compare(&format!("chunk {number}, {kind:?}, {lending:?}"), &chunk, lending, rng);
+        }
+    }
+}
+
+impl Checker {
     /// Reads the chunk into tables of this kind and counts the answer, and a difference if there is one.
     pub fn compare(&mut self, name: &str, chunk: &[u8], lending: Lending, rng: &mut Rng) {
         let full = model::read(chunk, &Rooms::FULL);
@@ -61,13 +92,11 @@ impl Checker {
             Ok(answer) if roomy(&answer) => Ok(answer),
             _ => model::read(chunk, &Rooms::lent(lent)),
         };
-        self.compared += 1;
+        self.tally.compared += 1;
         self.counts[expected.as_ref().err().copied().unwrap_or(0) as usize] += 1;
         if let Err(what) = self.one(chunk, lent, expected, rng) {
-            self.different += 1;
-            self.first.get_or_insert_with(|| {
-                let hex: String = chunk.iter().map(|byte| format!("{byte:02x}")).collect();
-                format!("{name}: {what}\nlent words {lent:?}, chunk of {} bytes:\n{hex}", chunk.len())
+            self.tally.differs(|| {
+                format!("{name}: {what}\nlent words {lent:?}, chunk of {} bytes:\n{}", chunk.len(), hex(chunk))
             });
         }
     }
@@ -111,27 +140,10 @@ impl Checker {
         ensure(given == number, || format!("answer {given}, not {number}"))?;
         ensure(self.chunk[lent_chunk] == *chunk, || "the chunk was written".to_string())?;
         compare_table("header", &self.header, 12, &answer.header, garbage)?;
-        for (index, name) in ["bindings", "buffers", "variables", "types"].into_iter().enumerate() {
+        for (index, name) in TABLE_NAMES.into_iter().enumerate() {
             compare_table(name, &self.tables[index], lent[index], answer.tables()[index], garbage)?;
         }
         Ok(())
-    }
-
-    /// The counts, then the line that says how many were compared and how many differ.
-    pub fn report(&self) -> String {
-        let mut lines = format!("read {}\n", self.counts[0]);
-        for number in 1..16 {
-            lines += &format!("refused {number} {}\n", self.counts[number]);
-        }
-        lines + &format!("{} compared, {} different", self.compared, self.different)
-    }
-}
-
-fn ensure(holds: bool, what: impl FnOnce() -> String) -> Result<(), String> {
-    if holds {
-        Ok(())
-    } else {
-        Err(what())
     }
 }
 
@@ -146,6 +158,21 @@ fn compare_table(name: &str, table: &[u32], lent: usize, words: &[u32], garbage:
     let wanted = |index: usize| words.get(index).copied().unwrap_or(0);
     let index = (0..lent).find(|&index| inside[index] != wanted(index)).unwrap_or(0);
     Err(format!("{name}: word {index} is {:#x}, not {:#x}", inside[index], wanted(index)))
+}
+
+/// Full-size tables cost most of the time, so only a share of the calls gets them; the chunks around the
+/// limits get them oftener.
+fn some_lending(kind: Kind, rng: &mut Rng) -> Lending {
+    if matches!(kind, Kind::Branching | Kind::Crowded) && rng.one_in(2) {
+        return rng.pick(&[Lending::Full, Lending::Full, Lending::Over]);
+    }
+    match rng.below(200) {
+        0..=3 => Lending::Full,
+        4 => Lending::Over,
+        5..=29 => Lending::Short,
+        30..=44 => Lending::Small,
+        _ => Lending::Enough,
+    }
 }
 
 fn lent_words(lending: Lending, full: &Result<Answer, u32>, rng: &mut Rng) -> [usize; 4] {

@@ -18,6 +18,7 @@ include!(concat!(env!("OUT_DIR"), "/rdef_module.rs"));
 
 pub mod arguments;
 pub mod check;
+pub mod comparison;
 pub mod generate;
 pub mod guarded;
 pub mod model;

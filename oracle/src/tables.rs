@@ -6,6 +6,9 @@ pub const BUFFER_WORDS: usize = 7;
 pub const VARIABLE_WORDS: usize = 13;
 pub const TYPE_WORDS: usize = 17;
 
+/// The tables in their order.
+pub const TABLE_NAMES: [&str; 4] = ["bindings", "buffers", "variables", "types"];
+
 /// The four record widths in the order of the tables.
 pub const WIDTHS: [usize; 4] = [BINDING_WORDS, BUFFER_WORDS, VARIABLE_WORDS, TYPE_WORDS];
 

@@ -2,6 +2,7 @@
 //! that are wrong.
 
 use oracle::check::{Checker, Lending};
+use oracle::comparison::Comparison;
 use oracle::generate::rng::Rng;
 use oracle::generate::{examples, fixed_chunks, plan, Generator, Kind, KINDS};
 use oracle::port::{self, Reader};
@@ -173,8 +174,8 @@ fn differences(reader: Reader) -> u64 {
         let lending = rng.pick(&[Lending::Full, Lending::Over, Lending::Enough, Lending::Short, Lending::Small]);
         checker.compare(&format!("{kind:?}"), &chunk, lending, &mut rng);
     }
-    assert_eq!(checker.compared, 3_000);
-    checker.different
+    assert_eq!(checker.tally.compared, 3_000);
+    checker.tally.different
 }
 
 #[test]

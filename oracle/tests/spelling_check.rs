@@ -1,23 +1,18 @@
 //! The comparison of spelling and listing finds entry points that are wrong.
 
+use oracle::comparison::Comparison;
 use oracle::generate::rng::Rng;
 use oracle::spelling::check::Checker;
-use oracle::spelling::generate::Generator;
 use oracle::spelling::model::Model;
 use oracle::spelling::port::{Entries, OfRecord, OfText, MODEL};
-use oracle::spelling::{Speller, KINDS};
+use oracle::spelling::Speller;
 
 /// How many differences the entry points show on some thousand queries of each kind.
 fn differences(entries: Entries) -> u64 {
     let mut checker = Checker::new(entries);
-    let (generator, mut rng) = (Generator::new(7), Rng::new(8, 0));
-    for (kind, name) in KINDS.iter().enumerate() {
-        for number in 0..4_000 {
-            checker.compare(name, &generator.case(kind, number), &mut rng);
-        }
-    }
-    assert_eq!(checker.compared, 16_000);
-    checker.different
+    checker.compare_fresh(4_000, 7, &mut Rng::new(8, 0));
+    assert_eq!(checker.tally.compared, 16_000);
+    checker.tally.different
 }
 
 /// Puts another text of no more bytes where the model's was.

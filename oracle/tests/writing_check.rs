@@ -1,24 +1,17 @@
 //! The comparison of canonical forms finds writers that are wrong.
 
+use oracle::comparison::Comparison;
 use oracle::generate::rng::Rng;
 use oracle::writing::check::Checker;
-use oracle::writing::generate::Generator;
 use oracle::writing::port::{model, Lent, Writer};
 use oracle::writing::SCRATCH;
 
 /// How many differences the writer shows on some thousand cases and pairs.
 fn differences(writer: Writer) -> u64 {
     let mut checker = Checker::new(writer);
-    let (generator, mut rng) = (Generator::new(7), Rng::new(8, 0));
-    for number in 0..3_000 {
-        checker.compare("case", &generator.case(number).1, &mut rng);
-    }
-    for number in 0..300 {
-        let pair = generator.pair(number);
-        checker.compare_pair("pair", pair.each_ref(), &mut rng);
-    }
-    assert_eq!(checker.compared, 3_600);
-    checker.different
+    checker.compare_fresh(3_000, 7, &mut Rng::new(8, 0));
+    assert_eq!(checker.tally.compared, 3_600);
+    checker.tally.different
 }
 
 #[test]

@@ -7,45 +7,28 @@ use nontrefalcu::{parse_rdef, Refusal, ResourceDef};
 use oracle::generate::rng::Rng;
 use oracle::generate::texts::identifier;
 use oracle::generate::Generator;
-use oracle::rdef::{self, CBufferVariable, TypeDesc};
+use oracle::rdef::{self, TypeDesc};
+use oracle::writing::generate::fields::{variables, What};
 use oracle::ChunkWriter;
 use std::borrow::Cow;
 
 const NOT_READABLE: Refusal = Refusal { number: 16 };
 
-#[derive(Clone, Copy, PartialEq, Eq, Debug)]
-enum Edit {
-    Creator,
-    Binding,
-    Buffer,
-    Variable,
-    Default,
-    Type,
-    Member,
-}
-
-const EDITS: [Edit; 7] =
-    [Edit::Creator, Edit::Binding, Edit::Buffer, Edit::Variable, Edit::Default, Edit::Type, Edit::Member];
-
-fn variables<'d, 'a>(def: &'d mut rdef::ResourceDef<'a>) -> Vec<&'d mut CBufferVariable<'a>> {
-    def.constant_buffers.iter_mut().flat_map(|buffer| &mut buffer.variables).collect()
-}
-
 /// The name of a type node, or its name as a member, by the node's number in walk order; None where there is none.
-fn rename<'a>(desc: &mut TypeDesc<'a>, left: &mut usize, edit: Edit, name: &str) -> Option<bool> {
+fn rename<'a>(desc: &mut TypeDesc<'a>, left: &mut usize, what: What, name: &str) -> Option<bool> {
     if *left == 0 {
-        if edit == Edit::Type {
+        if what == What::Type {
             desc.name = Cow::Owned(name.to_owned());
         }
-        return Some(edit == Edit::Type);
+        return Some(what == What::Type);
     }
     *left -= 1;
     for member in &mut desc.members {
-        if *left == 0 && edit == Edit::Member {
+        if *left == 0 && what == What::Member {
             member.name = Cow::Owned(name.to_owned());
             return Some(true);
         }
-        if let Some(done) = rename(&mut member.member_type, left, edit, name) {
+        if let Some(done) = rename(&mut member.member_type, left, what, name) {
             return Some(done);
         }
     }
@@ -53,31 +36,31 @@ fn rename<'a>(desc: &mut TypeDesc<'a>, left: &mut usize, edit: Edit, name: &str)
 }
 
 /// Makes one edit on both sides; both or neither must be changed.
-fn make(edit: Edit, index: usize, rng: &mut Rng, ours: &mut ResourceDef<'_>, theirs: &mut rdef::ResourceDef<'_>) {
+fn make(what: What, index: usize, rng: &mut Rng, ours: &mut ResourceDef<'_>, theirs: &mut rdef::ResourceDef<'_>) {
     let name = match rng.below(8) {
         0 => String::new(),
         1 => "schöne Zeile → 字幕 𝄞".to_owned(),
         _ => String::from_utf8(identifier(rng, 1, 20)).expect("an identifier"),
     };
     let owned: Cow<'_, str> = Cow::Owned(name.clone());
-    let (done, answer) = match edit {
-        Edit::Creator => {
+    let (done, answer) = match what {
+        What::Creator => {
             theirs.creator = Cow::Owned(name.clone());
             (true, ours.set_creator(&name))
         }
-        Edit::Binding => {
+        What::Binding => {
             let done = theirs.bindings.get_mut(index).map(|binding| binding.name = Cow::Owned(name.clone()));
             (done.is_some(), ours.set_binding_name(index, &name))
         }
-        Edit::Buffer => {
+        What::Buffer => {
             let done = theirs.constant_buffers.get_mut(index).map(|buffer| buffer.name = Cow::Owned(name.clone()));
             (done.is_some(), ours.set_buffer_name(index, &name))
         }
-        Edit::Variable => {
+        What::Variable => {
             let done = variables(theirs).get_mut(index).map(|variable| variable.name = Cow::Owned(name.clone()));
             (done.is_some(), ours.set_variable_name(index, &name))
         }
-        Edit::Default => {
+        What::Default => {
             let size = variables(theirs).get(index).map_or(4, |variable| variable.size as usize).min(70_000);
             let value: Vec<u8> = match rng.below(4) {
                 0 => Vec::new(),
@@ -96,21 +79,21 @@ fn make(edit: Edit, index: usize, rng: &mut Rng, ours: &mut ResourceDef<'_>, the
             };
             (done, answer)
         }
-        Edit::Type | Edit::Member => {
+        What::Type | What::Member => {
             let is_major_5 = theirs.rd11.is_some();
-            let allowed = edit == Edit::Member || is_major_5 || owned.is_empty();
+            let allowed = what == What::Member || is_major_5 || owned.is_empty();
             let mut left = index;
             let done = allowed
                 && variables(theirs)
                     .into_iter()
-                    .find_map(|variable| rename(&mut variable.var_type, &mut left, edit, &name))
+                    .find_map(|variable| rename(&mut variable.var_type, &mut left, what, &name))
                     .unwrap_or(false);
             let answer =
-                if edit == Edit::Type { ours.set_type_name(index, &name) } else { ours.set_member_name(index, &name) };
+                if what == What::Type { ours.set_type_name(index, &name) } else { ours.set_member_name(index, &name) };
             (done, answer)
         }
     };
-    assert_eq!(answer, if done { Ok(()) } else { Err(NOT_READABLE) }, "{edit:?} {index} {name:?}");
+    assert_eq!(answer, if done { Ok(()) } else { Err(NOT_READABLE) }, "{what:?} {index} {name:?}");
 }
 
 #[test]
@@ -128,9 +111,9 @@ fn edits_are_written_as_by_rdef_rs() {
         };
         let mut theirs = rdef::parse_rdef(&chunk).expect("by rdef.rs too");
         for _ in 0..rng.between(1, 6) {
-            let edit = rng.pick(&EDITS);
+            let what = rng.pick(&What::ALL);
             let index = rng.below(12);
-            make(edit, index, &mut rng, &mut ours, &mut theirs);
+            make(what, index, &mut rng, &mut ours, &mut theirs);
         }
         assert_same(&ours, &theirs);
         let payload = theirs.write_payload();

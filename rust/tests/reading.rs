@@ -5,6 +5,7 @@ mod common;
 use common::{assert_same, cases, seed};
 use nontrefalcu::{parse_rdef, raw};
 use oracle::check::{Checker, Lending};
+use oracle::comparison::Comparison;
 use oracle::generate::rng::Rng;
 use oracle::generate::{fixed_chunks, Generator, Kind};
 use oracle::tables::Rooms;
@@ -20,11 +21,7 @@ fn read(chunk: &[u8], header: &mut [u32], tables: [&mut [u32]; 4]) -> u32 {
 fn every_word_is_that_of_rdef_rs() {
     let mut checker = Checker::new(read);
     let mut rng = Rng::new(seed(), u64::MAX);
-    for fixed in fixed_chunks() {
-        for lending in [Lending::Full, Lending::Over, Lending::Enough, Lending::Short, Lending::Small] {
-            checker.compare(&fixed.name, &fixed.bytes, lending, &mut rng);
-        }
-    }
+    checker.compare_fixed(&mut rng);
     let generator = Generator::new(seed());
     for number in 0..cases() {
         let (kind, chunk) = generator.chunk(number);
@@ -39,7 +36,7 @@ fn every_word_is_that_of_rdef_rs() {
         checker.compare(&format!("chunk {number}, {kind:?}, {lending:?}"), &chunk, lending, &mut rng);
     }
     println!("{}", checker.report());
-    assert_eq!(checker.first, None);
+    assert_eq!(checker.tally.first, None);
 }
 
 /// The interface's answer for a chunk: the number of document 01, or the fields of rdef.rs.

@@ -4,13 +4,14 @@ mod common;
 
 use common::{cases, seed};
 use nontrefalcu::{hlsl_type_name, parse_hlsl_type, parse_rdef, raw, Refusal, TypeDesc};
+use oracle::comparison::Comparison;
 use oracle::generate::rng::Rng;
 use oracle::generate::{fixed_chunks, Generator as Chunks};
 use oracle::rdef;
 use oracle::spelling::check::Checker;
-use oracle::spelling::generate::{grid, long, samples, with_rooms, Generator};
+use oracle::spelling::generate::Generator;
 use oracle::spelling::port::Entries;
-use oracle::spelling::{stored, Query, KINDS};
+use oracle::spelling::Query;
 
 const LINKED: Entries = Entries {
     type_name: |chunk, edits, node, out, length| raw::type_name(chunk, edits, node, out, length),
@@ -25,22 +26,10 @@ const LINKED: Entries = Entries {
 fn every_byte_is_that_of_rdef_rs() {
     let mut checker = Checker::new(LINKED);
     let mut rng = Rng::new(seed(), u64::MAX);
-    for (index, case) in stored::cases().iter().enumerate() {
-        checker.compare(&format!("stored case {index}"), case, &mut rng);
-    }
-    for query in [grid::queries(), long::queries(), samples::queries()].concat() {
-        for case in with_rooms(&query) {
-            checker.compare("fixed query", &case, &mut rng);
-        }
-    }
-    let generator = Generator::new(seed());
-    for (kind, name) in KINDS.iter().enumerate() {
-        for number in 0..cases() {
-            checker.compare(&format!("{name} {number}"), &generator.case(kind, number), &mut rng);
-        }
-    }
+    checker.compare_fixed(&mut rng);
+    checker.compare_fresh(cases(), seed(), &mut rng);
     println!("{}", checker.report());
-    assert_eq!(checker.first, None);
+    assert_eq!(checker.tally.first, None);
 }
 
 #[test]

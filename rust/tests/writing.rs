@@ -4,10 +4,11 @@ mod common;
 
 use common::{assert_same, cases, seed};
 use nontrefalcu::{parse_rdef, raw, Refusal};
+use oracle::comparison::Comparison;
 use oracle::generate::rng::Rng;
 use oracle::generate::{fixed_chunks, Generator as Chunks};
 use oracle::writing::check::Checker;
-use oracle::writing::generate::{fixed, Generator};
+use oracle::writing::generate::fixed;
 use oracle::writing::port::Lent;
 use oracle::writing::stored;
 use oracle::{rdef, ChunkWriter};
@@ -30,16 +31,9 @@ fn every_byte_is_that_of_rdef_rs() {
             checker.compare(&name, &case, &mut rng);
         }
     }
-    let generator = Generator::new(seed());
-    for number in 0..cases() {
-        let (kind, case) = generator.case(number);
-        checker.compare(&format!("case {number}, {kind:?}"), &case, &mut rng);
-    }
-    for number in 0..cases() / 10 {
-        checker.compare_pair(&format!("pair {number}"), generator.pair(number).each_ref(), &mut rng);
-    }
+    checker.compare_fresh(cases(), seed(), &mut rng);
     println!("{}", checker.report());
-    assert_eq!(checker.first, None);
+    assert_eq!(checker.tally.first, None);
 }
 
 /// A chunk that reads: its canonical form is that of rdef.rs and reads as the same, and its payload is itself.

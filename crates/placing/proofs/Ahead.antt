@@ -2,14 +2,16 @@
 -- writes lie apart, so their order does not matter.
 use mathlib.Core.Path.{_≡_, refl, ap, sym, _∙_, subst}
 use mathlib.Core.List.{List, [], _∷_, _++_}
+use mathlib.Core.Logic.{_⊎_, inl, inr}
 use Prim.Native.Nat.{ℕ, suc, _+_, _*_, _≤_, _<_}
 use native.Mathlib.Omega.{arith}
 use lib.ListN.{length, set, length-append}
 use lib.Seq.{set-comm, sets}
-use Rattle.words.specs.Splice.{splice, splice-append, Put}
+use Rattle.words.specs.Splice.{splice, splice-append, Put, put-length}
 use Rattle.reflection.specs.declared.Text.{Text}
 use Rattle.writing.specs.Step.{Pools, Placed, Step, ahead, wordCells}
-use Rattle.placing.specs.Ran.{Ran, cellBytes}
+use Rattle.writing.proofs.Sizes.{word-cells-length}
+use Rattle.placing.specs.Ran.{Exact, Over, Ran, cellBytes}
 use Rattle.placing.specs.Bytes.{joinedBytes}
 use Rattle.placing.proofs.CellBytes.{length-joined, cell-bytes-append, cell-bytes-words}
 
@@ -36,26 +38,36 @@ put-ahead {l} {l₁} {l₂} {xs} {ys} {a} {r₁} {r₂} p q = record {
 module _ (chunk edits : List ℕ) where
   -- the step ran from behind n words; then the words were written at the cursor
   pub ran-ahead : {A : Type 0} {m : Step Text Text A} (n : ℕ) (words : A → List ℕ) {at to end : ℕ} {ps ps′ : Pools Text Text} {out out₁ out₂ : List ℕ} {a : A}
-      → length (words a) ≡ n → Ran chunk edits m (at + 4 * n) ps out out₁ a to ps′ → Put out₁ at (joinedBytes (words a)) out₂ end
+      → length (words (m (at + 4 * n) ps .result)) ≡ n → Ran chunk edits m (at + 4 * n) ps out out₁ a to ps′ → Put out₁ at (joinedBytes (words a)) out₂ end
       → Ran chunk edits (ahead n words m) at ps out out₂ a to ps′
   unfolding ahead
-  ran-ahead {A} {m} n words {at} {to} {end} {ps} {ps′} {out} {out₁} {out₂} {a} long p q = record {
-    answered = p .answered;
-    put = subst (λ bytes. Put out at bytes out₂ to) bytes (put-ahead behind q);
-    pools-left = p .pools-left;
-  }
+  ran-ahead {A} {m} n words {at} {to} {end} {ps} {ps′} {out} {out₁} {out₂} {a} sized p q = by (p .known)
     where
       placed : Placed Text Text A
       placed = m (at + 4 * n) ps
 
-      start : at + 4 * n ≡ at + length (joinedBytes (words a))
-      start = omega (arith, length-joined (words a), long)
+      start : placed .result ≡ a → at + 4 * n ≡ at + length (joinedBytes (words a))
+      start e = omega (arith, length-joined (words a), ap (λ (x : A). length (words x)) e, sized)
 
-      behind : Put out (at + length (joinedBytes (words a))) (cellBytes chunk edits (placed .cells)) out₁ to
-      behind = subst (λ k. Put out k (cellBytes chunk edits (placed .cells)) out₁ to) start (p .put)
-
-      bytes : joinedBytes (words a) ++ cellBytes chunk edits (placed .cells) ≡ cellBytes chunk edits (wordCells (words (placed .result)) ++ placed .cells)
-      bytes =
-          ap (λ (x : A). joinedBytes (words x) ++ cellBytes chunk edits (placed .cells)) (sym (p .answered))
+      bytes : placed .result ≡ a → joinedBytes (words a) ++ cellBytes chunk edits (placed .cells) ≡ cellBytes chunk edits (wordCells (words (placed .result)) ++ placed .cells)
+      bytes e =
+          ap (λ (x : A). joinedBytes (words x) ++ cellBytes chunk edits (placed .cells)) (sym e)
           ∙ ap (λ (l : List ℕ). l ++ cellBytes chunk edits (placed .cells)) (sym (cell-bytes-words chunk edits (words (placed .result))))
           ∙ sym (cell-bytes-append chunk edits (wordCells (words (placed .result))) (placed .cells))
+
+      by : Exact chunk edits m (at + 4 * n) ps out out₁ a to ps′ ⊎ Over m (at + 4 * n) ps out out₁ to → Ran chunk edits (ahead n words m) at ps out out₂ a to ps′
+      by (inl p) = record {
+        known = inl (record {
+          answered = p .answered;
+          put = subst (λ bytes. Put out at bytes out₂ to) (bytes (p .answered))
+              (put-ahead (subst (λ k. Put out k (cellBytes chunk edits (placed .cells)) out₁ to) (start (p .answered)) (p .put)) q);
+          pools-left = p .pools-left;
+        });
+      }
+      by (inr p) = record {
+        known = inr (record {
+          reached = p .reached;
+          defined = omega (arith, p .defined, length-append (wordCells (words (placed .result))) (placed .cells), word-cells-length Text Text (words (placed .result)), sized);
+          long = put-length q ∙ p .long;
+        });
+      }

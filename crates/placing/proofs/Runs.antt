@@ -3,13 +3,15 @@
 use mathlib.Core.Path.{_≡_, refl, ap, sym, _∙_, subst}
 use mathlib.Core.Bool.{Bool, true, false}
 use mathlib.Core.List.{List, [], _++_}
+use mathlib.Core.Logic.{_⊎_, inl, inr, ⊎-elim}
 use mathlib.Core.Option.{Option, none, some}
-use Prim.Native.Nat.{ℕ, zero, suc, _+_}
-use lib.ListN.{length, replicate, length-replicate}
-use Rattle.words.specs.Splice.{Put, put-none, put-then}
+use Prim.Native.Nat.{ℕ, zero, suc, _+_, _<_, _≤_}
+use native.Mathlib.Omega.{arith}
+use lib.ListN.{length, replicate, length-replicate, length-append}
+use Rattle.words.specs.Splice.{Put, put-none, put-then, put-length}
 use Rattle.reflection.specs.declared.Text.{Text}
 use Rattle.writing.specs.Step.{Cell, Pools, Placed, Step, _>>=_, return, append, remember, pad, paddingAt, wordCells, found, once, rememberIf, unlessEmpty, below, goDown, comeUp}
-use Rattle.placing.specs.Ran.{Ran, cellBytes}
+use Rattle.placing.specs.Ran.{Exact, Over, Ran, chunkLimit, cellBytes}
 use Rattle.placing.specs.Bytes.{joinedBytes}
 use Rattle.placing.proofs.CellBytes.{length-cell-bytes, cell-bytes-append, cell-bytes-none, cell-bytes-words, cell-bytes-padding}
 
@@ -18,40 +20,81 @@ module _ (chunk edits : List ℕ) where
   put-no-cells : (out : List ℕ) (at : ℕ) → Put out at (cellBytes chunk edits []) out at
   put-no-cells out at = subst (λ bytes. Put out at bytes out at) (sym (cell-bytes-none chunk edits)) (put-none out at)
 
+  exactly : {A : Type 0} {m : Step Text Text A} {at to : ℕ} {ps ps′ : Pools Text Text} {out out′ : List ℕ} {a : A} → Exact chunk edits m at ps out out′ a to ps′
+      → Ran chunk edits m at ps out out′ a to ps′
+  exactly p = record { known = inl p }
+
+  -- past the limit anything is a run that leaves the output as long as it was and the cursor no less
+  pub ran-past : {A : Type 0} (m : Step Text Text A) {at to : ℕ} (ps : Pools Text Text) {ps′ : Pools Text Text} {out out′ : List ℕ} {a : A} → chunkLimit < at → at ≤ to → length out′ ≡ length out
+      → Ran chunk edits m at ps out out′ a to ps′
+  ran-past m ps past up long = record { known = inr (record { reached = omega arith; defined = omega arith; long = long }) }
+
   -- two steps, the second made from the first one's result
   pub ran-bind : {A B : Type 0} {m : Step Text Text A} (f : A → Step Text Text B) {at to₁ to₂ : ℕ} {ps ps₁ ps₂ : Pools Text Text} {out out₁ out₂ : List ℕ} {a : A} {b : B}
       → Ran chunk edits m at ps out out₁ a to₁ ps₁ → Ran chunk edits (f a) to₁ ps₁ out₁ out₂ b to₂ ps₂ → Ran chunk edits (m >>= f) at ps out out₂ b to₂ ps₂
   unfolding _>>=_
-  ran-bind {A} {B} {m} f {at} {to₁} {to₂} {ps} {ps₁} {ps₂} {out} {out₁} {out₂} {a} {b} p q = record {
-    answered = ap (λ (x : Placed Text Text B). x .result) second ∙ q .answered;
-    put = subst (λ bytes. Put out at bytes out₂ to₂) bytes (put-then (p .put) (q .put));
-    pools-left = ap (λ (x : Placed Text Text B). x .pools-after) second ∙ q .pools-left;
-  }
+  ran-bind {A} {B} {m} f {at} {to₁} {to₂} {ps} {ps₁} {ps₂} {out} {out₁} {out₂} {a} {b} p q = by (p .known) (q .known)
     where
       first : Placed Text Text A
       first = m at ps
 
-      cursor : at + length (first .cells) ≡ to₁
-      cursor = ap (λ (n : ℕ). at + n) (sym (length-cell-bytes chunk edits (first .cells))) ∙ sym (p .put .next)
+      after : Placed Text Text B
+      after = f (first .result) (at + length (first .cells)) (first .pools-after)
 
-      second : f (first .result) (at + length (first .cells)) (first .pools-after) ≡ f a to₁ ps₁
-      second = λ i. f (p .answered i) (cursor i) (p .pools-left i)
+      cells-longer : length (first .cells) + length (after .cells) ≡ length (first .cells ++ after .cells)
+      cells-longer = sym (length-append (first .cells) (after .cells))
 
-      bytes : cellBytes chunk edits (first .cells) ++ cellBytes chunk edits (f a to₁ ps₁ .cells)
-          ≡ cellBytes chunk edits (first .cells ++ f (first .result) (at + length (first .cells)) (first .pools-after) .cells)
-      bytes =
-          ap (λ (x : Placed Text Text B). cellBytes chunk edits (first .cells) ++ cellBytes chunk edits (x .cells)) (sym second)
-          ∙ sym (cell-bytes-append chunk edits (first .cells) (f (first .result) (at + length (first .cells)) (first .pools-after) .cells))
+      cursor : Exact chunk edits m at ps out out₁ a to₁ ps₁ → at + length (first .cells) ≡ to₁
+      cursor p = ap (λ (n : ℕ). at + n) (sym (length-cell-bytes chunk edits (first .cells))) ∙ sym (p .put .next)
+
+      second : Exact chunk edits m at ps out out₁ a to₁ ps₁ → after ≡ f a to₁ ps₁
+      second p = λ i. f (p .answered i) (cursor p i) (p .pools-left i)
+
+      bytes : Exact chunk edits m at ps out out₁ a to₁ ps₁
+          → cellBytes chunk edits (first .cells) ++ cellBytes chunk edits (f a to₁ ps₁ .cells) ≡ cellBytes chunk edits (first .cells ++ after .cells)
+      bytes p =
+          ap (λ (x : Placed Text Text B). cellBytes chunk edits (first .cells) ++ cellBytes chunk edits (x .cells)) (sym (second p))
+          ∙ sym (cell-bytes-append chunk edits (first .cells) (after .cells))
+
+      by : Exact chunk edits m at ps out out₁ a to₁ ps₁ ⊎ Over m at ps out out₁ to₁ → Exact chunk edits (f a) to₁ ps₁ out₁ out₂ b to₂ ps₂ ⊎ Over (f a) to₁ ps₁ out₁ out₂ to₂
+          → Ran chunk edits (m >>= f) at ps out out₂ b to₂ ps₂
+      by (inl p) (inl q) = exactly (record {
+        answered = ap (λ (x : Placed Text Text B). x .result) (second p) ∙ q .answered;
+        put = subst (λ bytes. Put out at bytes out₂ to₂) (bytes p) (put-then (p .put) (q .put));
+        pools-left = ap (λ (x : Placed Text Text B). x .pools-after) (second p) ∙ q .pools-left;
+      })
+      by (inl p) (inr q) = record {
+        known = inr (record {
+          reached = q .reached;
+          defined = omega (arith, q .defined, cursor p, cells-longer, ap (λ (x : Placed Text Text B). length (x .cells)) (second p));
+          long = q .long ∙ put-length (p .put);
+        });
+      }
+      by (inr p) (inl q) = record { known = inr (record { reached = omega (arith, p .reached, q .put .next); defined = omega (arith, p .defined, cells-longer); long = put-length (q .put) ∙ p .long }) }
+      by (inr p) (inr q) = record { known = inr (record { reached = q .reached; defined = omega (arith, p .defined, cells-longer); long = q .long ∙ p .long }) }
+
+  -- a step that does here what another does
+  ran-same : {A : Type 0} {m n : Step Text Text A} {at to : ℕ} {ps ps′ : Pools Text Text} {out out′ : List ℕ} {a : A} → m at ps ≡ n at ps → Ran chunk edits m at ps out out′ a to ps′
+      → Ran chunk edits n at ps out out′ a to ps′
+  ran-same {A} {m} {n} {at} {to} {ps} {ps′} {out} {out′} {a} e p = by (p .known)
+    where
+      by : Exact chunk edits m at ps out out′ a to ps′ ⊎ Over m at ps out out′ to → Ran chunk edits n at ps out out′ a to ps′
+      by (inl p) = exactly (record {
+        answered = ap (λ (x : Placed Text Text A). x .result) (sym e) ∙ p .answered;
+        put = subst (λ (x : Placed Text Text A). Put out at (cellBytes chunk edits (x .cells)) out′ to) e (p .put);
+        pools-left = ap (λ (x : Placed Text Text A). x .pools-after) (sym e) ∙ p .pools-left;
+      })
+      by (inr p) = record { known = inr (record { reached = p .reached; defined = subst (λ (x : Placed Text Text A). chunkLimit < at + length (x .cells)) e (p .defined); long = p .long }) }
 
   pub ran-return : {A : Type 0} (a : A) (at : ℕ) (ps : Pools Text Text) (out : List ℕ) → Ran chunk edits (return a) at ps out out a at ps
   unfolding return
-  ran-return a at ps out = record { answered = refl; put = put-no-cells out at; pools-left = refl }
+  ran-return a at ps out = exactly (record { answered = refl; put = put-no-cells out at; pools-left = refl })
 
   -- cells whose bytes are known
   pub ran-append : (cells : List (Cell Text Text)) {at to : ℕ} {ps : Pools Text Text} {out out′ bytes : List ℕ} → cellBytes chunk edits cells ≡ bytes → Put out at bytes out′ to
       → Ran chunk edits (append cells) at ps out out′ at to ps
   unfolding append
-  ran-append cells {at} {to} {ps} {out} {out′} e p = record { answered = refl; put = subst (λ bytes. Put out at bytes out′ to) (sym e) p; pools-left = refl }
+  ran-append cells {at} {to} {ps} {out} {out′} e p = exactly (record { answered = refl; put = subst (λ bytes. Put out at bytes out′ to) (sym e) p; pools-left = refl })
 
   pub ran-append-words : (ws : List ℕ) {at to : ℕ} {ps : Pools Text Text} {out out′ : List ℕ} → Put out at (joinedBytes ws) out′ to
       → Ran chunk edits (append (wordCells ws)) at ps out out′ at to ps
@@ -59,16 +102,16 @@ module _ (chunk edits : List ℕ) where
 
   pub ran-pad : {at to : ℕ} {ps : Pools Text Text} {out out′ : List ℕ} → Put out at (replicate (paddingAt at) 0xab) out′ to → Ran chunk edits pad at ps out out′ to to ps
   unfolding pad
-  ran-pad {at} {to} {ps} {out} {out′} p = record {
+  ran-pad {at} {to} {ps} {out} {out′} p = exactly (record {
     answered = ap (λ (n : ℕ). at + n) (sym (length-replicate (paddingAt at) 0xab)) ∙ sym (p .next);
     put = subst (λ bytes. Put out at bytes out′ to) (sym (cell-bytes-padding chunk edits (paddingAt at) 0xab)) p;
     pools-left = refl;
-  }
+  })
 
   pub ran-remember : (add : ℕ → Pools Text Text → Pools Text Text) (offset at : ℕ) (ps : Pools Text Text) (out : List ℕ)
       → Ran chunk edits (remember add offset) at ps out out offset at (add offset ps)
   unfolding remember
-  ran-remember add offset at ps out = record { answered = refl; put = put-no-cells out at; pools-left = refl }
+  ran-remember add offset at ps out = exactly (record { answered = refl; put = put-no-cells out at; pools-left = refl })
 
   pub ran-remember-if-shared : (share : Bool) (add : ℕ → Pools Text Text → Pools Text Text) (offset at : ℕ) (ps : Pools Text Text) (out : List ℕ) → share ≡ true
       → Ran chunk edits (rememberIf share add offset) at ps out out offset at (add offset ps)
@@ -97,39 +140,41 @@ module _ (chunk edits : List ℕ) where
   ran-found : (looked : Option ℕ) (m : Step Text Text ℕ) (offset at : ℕ) (ps : Pools Text Text) (out : List ℕ) → looked ≡ some offset
       → Ran chunk edits (found looked m) at ps out out offset at ps
   ran-found looked m offset at ps out e =
-      subst (λ x. Ran chunk edits (found x m) at ps out out offset at ps) (sym e) (record { answered = refl; put = put-no-cells out at; pools-left = refl })
+      subst (λ x. Ran chunk edits (found x m) at ps out out offset at ps) (sym e) (exactly (record { answered = refl; put = put-no-cells out at; pools-left = refl }))
 
   ran-absent : (looked : Option ℕ) {m : Step Text Text ℕ} {at to offset : ℕ} {ps ps′ : Pools Text Text} {out out′ : List ℕ} → looked ≡ none → Ran chunk edits m at ps out out′ offset to ps′
       → Ran chunk edits (found looked m) at ps out out′ offset to ps′
   ran-absent looked {m} {at} {to} {offset} {ps} {ps′} {out} {out′} e p =
-      subst (λ x. Ran chunk edits (found x m) at ps out out′ offset to ps′) (sym e) (record { answered = p .answered; put = p .put; pools-left = p .pools-left })
+      subst (λ x. Ran chunk edits (found x m) at ps out out′ offset to ps′) (sym e) (ran-same refl p)
 
   pub ran-once-found : (look : Pools Text Text → Option ℕ) (m : Step Text Text ℕ) (offset at : ℕ) (ps : Pools Text Text) (out : List ℕ) → look ps ≡ some offset
       → Ran chunk edits (once true look m) at ps out out offset at ps
   unfolding once
   ran-once-found look m offset at ps out e =
-      let p = ran-found (look ps) m offset at ps out e in
-      record { answered = p .answered; put = p .put; pools-left = p .pools-left }
+      ran-same refl (ran-found (look ps) m offset at ps out e)
 
   pub ran-once-fresh : (look : Pools Text Text → Option ℕ) {m : Step Text Text ℕ} {at to offset : ℕ} {ps ps′ : Pools Text Text} {out out′ : List ℕ} → look ps ≡ none
       → Ran chunk edits m at ps out out′ offset to ps′ → Ran chunk edits (once true look m) at ps out out′ offset to ps′
   unfolding once
   ran-once-fresh look {ps = ps} e q =
-      let p = ran-absent (look ps) e q in
-      record { answered = p .answered; put = p .put; pools-left = p .pools-left }
+      ran-same refl (ran-absent (look ps) e q)
 
   -- where nothing is shared
   pub ran-once-unshared : (shared : Bool) (look : Pools Text Text → Option ℕ) {m : Step Text Text ℕ} {at to offset : ℕ} {ps ps′ : Pools Text Text} {out out′ : List ℕ} → shared ≡ false
       → Ran chunk edits m at ps out out′ offset to ps′ → Ran chunk edits (once shared look m) at ps out out′ offset to ps′
   unfolding once
   ran-once-unshared shared look {m} {at} {to} {offset} {ps} {ps′} {out} {out′} e p =
-      subst (λ b. Ran chunk edits (once b look m) at ps out out′ offset to ps′) (sym e) (record { answered = p .answered; put = p .put; pools-left = p .pools-left })
+      subst (λ b. Ran chunk edits (once b look m) at ps out out′ offset to ps′) (sym e) (ran-same refl p)
 
   -- a member's type
   pub ran-below : {A : Type 0} {m : Step Text Text A} {at to : ℕ} {ps ps′ : Pools Text Text} {out out′ : List ℕ} {a : A} → Ran chunk edits m at (goDown ps) out out′ a to ps′
       → Ran chunk edits (below m) at ps out out′ a to (comeUp (ps .types) ps′)
   unfolding below
-  ran-below {ps = ps} p = record { answered = p .answered; put = p .put; pools-left = ap (comeUp (ps .types)) (p .pools-left) }
+  ran-below {A} {m} {at} {to} {ps} {ps′} {out} {out′} {a} p = by (p .known)
+    where
+      by : Exact chunk edits m at (goDown ps) out out′ a to ps′ ⊎ Over m at (goDown ps) out out′ to → Ran chunk edits (below m) at ps out out′ a to (comeUp (ps .types) ps′)
+      by (inl p) = exactly (record { answered = p .answered; put = p .put; pools-left = ap (comeUp (ps .types)) (p .pools-left) })
+      by (inr p) = record { known = inr (record { reached = p .reached; defined = p .defined; long = p .long }) }
 
   -- the same run from equal pools to equal pools, with an equal result
   pub ran-like : {A : Type 0} {m : Step Text Text A} {at to : ℕ} {ps qs ps′ qs′ : Pools Text Text} {out out′ : List ℕ} {a b : A} → ps ≡ qs → ps′ ≡ qs′ → a ≡ b
@@ -147,3 +192,7 @@ module _ (chunk edits : List ℕ) where
       → Ran chunk edits m at ps out out′ a to ps′ → Ran chunk edits m at ps out out″ a to′ ps′
   ran-to {A} {m} {at} {to} {to′} {ps} {ps′} {out} {out′} {out″} {a} e h p =
       subst (λ x. Ran chunk edits m at ps out out″ a x ps′) e (subst (λ x. Ran chunk edits m at ps out x a to ps′) h p)
+
+-- A run keeps the output's length.
+pub ran-long : {chunk edits : List ℕ} {A : Type 0} {step : Step Text Text A} {at to : ℕ} {ps ps′ : Pools Text Text} {out out′ : List ℕ} {a : A} → Ran chunk edits step at ps out out′ a to ps′ → length out′ ≡ length out
+ran-long ran = ⊎-elim (λ p. put-length (p .put)) (λ p. p .long) (ran .known)

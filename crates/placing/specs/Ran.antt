@@ -1,9 +1,10 @@
 -- A step of canonical writing was run: from the cursor and the pools it answered its result, appended its bytes to the output, and left the pools that it
--- leaves. Names and defaults are places in the chunk or in the text of edits. The contracts of the code that writes a chunk say this of each step.
+-- leaves; or the cursor is past the limit of a chunk. Names and defaults are places in the chunk or in the text of edits. The contracts of the code that writes a
+-- chunk say this of each step.
 use mathlib.Core.Path.{_≡_}
-use mathlib.Core.List.{List, [], _∷_, _++_, map}
-use mathlib.Core.Option.{Option, none, some}
-use Prim.Native.Nat.{ℕ}
+use mathlib.Core.List.{List, map}
+use mathlib.Core.Logic.{_⊎_}
+use Prim.Native.Nat.{ℕ, _+_, _<_}
 use lib.ListN.{length}
 use Rattle.words.specs.Splice.{Put}
 use Rattle.reflection.specs.declared.Text.{Text}
@@ -19,7 +20,21 @@ textOracle chunk edits = through (textBytes chunk edits) (textBytes chunk edits)
 unfoldable pub cellBytes : List ℕ → List ℕ → List (Cell Text Text) → List ℕ
 cellBytes chunk edits cells = map (fillThrough (textBytes chunk edits) (textBytes chunk edits)) cells
 
-pub record Ran (chunk edits : List ℕ) {A : Type 0} (step : Step Text Text A) (at : ℕ) (ps : Pools Text Text) (out out′ : List ℕ) (result : A) (to : ℕ) (ps′ : Pools Text Text) : Type 0 where
+pub record Exact (chunk edits : List ℕ) {A : Type 0} (step : Step Text Text A) (at : ℕ) (ps : Pools Text Text) (out out′ : List ℕ) (result : A) (to : ℕ) (ps′ : Pools Text Text) : Type 0 where
   pub answered : step at ps .result ≡ result
   pub put : Put out at (cellBytes chunk edits (step at ps .cells)) out′ to
   pub pools-left : step at ps .pools-after ≡ ps′
+
+-- How long a chunk may be.
+abbrev pub chunkLimit : ℕ
+chunkLimit = 65536
+
+-- Past the limit the chunk is refused whatever follows: of a step it then counts only that the cursor is past the limit, in the code and in the definition, and
+-- that the output is as long as it was. So the code need not look anything up there.
+pub record Over {A : Type 0} (step : Step Text Text A) (at : ℕ) (ps : Pools Text Text) (out out′ : List ℕ) (to : ℕ) : Type 0 where
+  pub reached : chunkLimit < to
+  pub defined : chunkLimit < at + length (step at ps .cells)
+  pub long : length out′ ≡ length out
+
+pub record Ran (chunk edits : List ℕ) {A : Type 0} (step : Step Text Text A) (at : ℕ) (ps : Pools Text Text) (out out′ : List ℕ) (result : A) (to : ℕ) (ps′ : Pools Text Text) : Type 0 where
+  pub known : Exact chunk edits step at ps out out′ result to ps′ ⊎ Over step at ps out out′ to

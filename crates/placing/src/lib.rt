@@ -17,6 +17,9 @@ ghost use Rattle.placing.specs.InScratch.{outerRoom, innerRoom, defaultR
 use reflection::Text;
 use text_pool::Pooled;
 
+// How long a chunk may be. Past it the chunk is refused, so names and defaults are no longer looked up.
+const CHUNK_LIMIT: usize = 65536;
+
 // Where something was placed, and the cursor after it.
 pub struct Spot {
     pub offset: u32,
@@ -185,6 +188,9 @@ pub fn place_outer_name<'a>(
     requires { ⌜ at ≤ farthestOffset ⌝ }
     ensures { λ r. ⌜ TextPlaced (now (chunk .entry)) (now (edits .entry)) (placeOuterName (textOracle (now (chunk .entry)) (now (edits .entry))) name) at outerPool 0 innerStart (now (s .entry)) (now (s .exit)) (now (out .entry)) (now (out .exit)) r ⌝ }
 {
+    if at > CHUNK_LIMIT {
+        return Spot { offset: 0, at: at };
+    }
     place_name(chunk, edits, name, &mut s[0..8192], out, at)
 }
 
@@ -203,6 +209,9 @@ pub fn place_inner_name<'a>(
     requires { ⌜ at ≤ farthestOffset ⌝ }
     ensures { λ r. ⌜ TextPlaced (now (chunk .entry)) (now (edits .entry)) (placeInnerName (textOracle (now (chunk .entry)) (now (edits .entry))) name) at innerPool innerStart defaultsStart (now (s .entry)) (now (s .exit)) (now (out .entry)) (now (out .exit)) r ⌝ }
 {
+    if at > CHUNK_LIMIT {
+        return Spot { offset: 0, at: at };
+    }
     place_name(chunk, edits, name, &mut s[8192..51200], out, at)
 }
 
@@ -221,5 +230,8 @@ pub fn place_scratch_default<'a>(
     requires { ⌜ at ≤ farthestOffset ⌝ }
     ensures { λ r. ⌜ TextPlaced (now (chunk .entry)) (now (edits .entry)) (placeDefault (textOracle (now (chunk .entry)) (now (edits .entry))) default) at defaultPool defaultsStart rootTypesStart (now (s .entry)) (now (s .exit)) (now (out .entry)) (now (out .exit)) r ⌝ }
 {
+    if at > CHUNK_LIMIT {
+        return Spot { offset: 0, at: at };
+    }
     place_default(chunk, edits, default, &mut s[51200..63488], out, at)
 }

@@ -15,7 +15,7 @@ use Rattle.reflection.specs.Outcome.{ok}
 use Rattle.reflection.specs.Reflection.{TypeDesc, typeDesc, Members, noMember, member, CBufferVariable, ResourceDef, Rd11, noRd11, rd11, memberCount, majorOf, isSm5, identifierOf, strideOf, slotsOf}
 use Rattle.reflection.specs.Nodes.{typeLevels, Fits, FitsAll}
 use Rattle.reflection.specs.Tables.{padded, allVariables, bindingRows, bufferRows, variableRows, typeRows, headerOf}
-use Rattle.reflection.specs.Decode.{check, TypesFit, rd11From}
+use Rattle.reflection.specs.Decode.{check, TypesFit}
 use Rattle.reflection.proofs.Nodes.{then-some}
 use Rattle.reflection.proofs.Decode.{rd11Of, rd11-of-header, decode-encoded}
 use Rattle.reflection.specs.Contents.{Bytes, contents}

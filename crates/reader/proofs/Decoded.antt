@@ -1,19 +1,18 @@
 -- Decoding what `parse_rdef` left gives exactly what was read. Decoding undoes encoding where every type has at most 65 levels, which reading sees to, level
 -- by level, and where the RD11 words are none exactly for major 4, which the header's check of the major version sees to.
-use mathlib.Core.Path.{_≡_, refl, sym, ap, subst, _∙_}
+use mathlib.Core.Path.{_≡_, refl, sym, subst, _∙_}
 use mathlib.Core.Bool.{Bool, true, false, _||_}
 use mathlib.Core.List.{List, [], _∷_, _++_}
 use mathlib.Core.Option.{some}
 use Prim.Native.Nat.{ℕ, zero, suc, _+_}
 use native.Mathlib.Omega.{arith}
-use borrow.Author.Tests.{eqb-true, ne-eqb}
+use borrow.Author.Tests.{eqb-true}
 use lib.Dec.{eqb}
-use lib.ListN.{length}
 use Rattle.words.specs.Words.{wordAt}
 use Rattle.reflection.specs.declared.Text.{Text}
 use Rattle.reflection.specs.declared.ResourceDef.{ResourceDef as Header}
 use Rattle.reflection.specs.Outcome.{Outcome, ok, refused}
-use Rattle.reflection.specs.Reflection.{TypeDesc, Members, Rd11, noRd11, rd11, CBufferVariable, CBufferDef, ResourceDef, identifierOf, strideOf, slotsOf, majorOf}
+use Rattle.reflection.specs.Reflection.{TypeDesc, Rd11, rd11, CBufferVariable, ResourceDef, majorOf}
 use Rattle.reflection.specs.Nodes.{Fits, FitsAll, typeLevels}
 use Rattle.reflection.specs.Tables.{allVariables, headerOf}
 use Rattle.reflection.specs.Decode.{TypesFit, decode, rd11From}

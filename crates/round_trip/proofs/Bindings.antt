@@ -2,7 +2,7 @@
 use mathlib.Core.Path.{_≡_, refl, ap, sym, _∙_}
 use mathlib.Core.List.{List, [], _∷_, map}
 use mathlib.Core.Bool.{Bool, true, false}
-use Prim.Native.Nat.{ℕ, suc, _+_, _*_, _<_, _≤_}
+use Prim.Native.Nat.{ℕ, _+_, _*_, _<_, _≤_}
 use native.Mathlib.Omega.{arith}
 use native.Mathlib.Nat.{add-zero}
 use lib.Dec.{leb}
@@ -16,9 +16,9 @@ use Rattle.reflection.specs.Contents.{Bytes}
 use Rattle.reading.specs.Step.{room}
 use Rattle.reading.specs.Read.{bindingStride, wordIf, bindingFrom, readBinding}
 use Rattle.readable.specs.Readable.{nameReadable}
-use Rattle.writing.specs.Step.{Cell, Pools, _>>=_, return, ahead}
+use Rattle.writing.specs.Step.{Cell, ahead}
 use Rattle.writing.specs.Records.{bindingWords, bindingSize, wordsIf, rows}
-use Rattle.writing.specs.Layout.{placeOuterName, placeOuterNames}
+use Rattle.writing.specs.Layout.{placeOuterNames}
 use Rattle.writing.specs.Canonical.{bytesOracle}
 use Rattle.writing.proofs.Sizes.{rows-length, binding-words-length, outer-names-length}
 use Rattle.round_trip.specs.RoundTrip.{Words, bindingNumbers}

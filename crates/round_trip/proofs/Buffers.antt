@@ -2,7 +2,7 @@
 use mathlib.Core.Path.{_≡_, refl, ap, sym, _∙_, subst}
 use mathlib.Core.List.{List, [], _∷_, _++_, map, map-append}
 use mathlib.Core.Bool.{Bool, true}
-use Prim.Native.Nat.{ℕ, suc, _+_, _*_, _<_, _≤_}
+use Prim.Native.Nat.{ℕ, _+_, _*_, _<_, _≤_}
 use native.Mathlib.Omega.{arith}
 use native.Mathlib.Nat.{add-zero}
 use lib.Dec.{eqb}
@@ -17,9 +17,9 @@ use Rattle.reflection.specs.Contents.{Bytes}
 use Rattle.reading.specs.Step.{Room, room}
 use Rattle.reading.specs.Read.{variableStride, readMany, readVariable, bufferFrom, readBuffer}
 use Rattle.readable.specs.Readable.{nameReadable}
-use Rattle.writing.specs.Step.{Cell, Pools, _>>=_, return, ahead, wordCells}
+use Rattle.writing.specs.Step.{Cell, ahead, wordCells}
 use Rattle.writing.specs.Records.{VariableOffsets, variableWords, variableSize, Section, bufferWords, rows}
-use Rattle.writing.specs.Layout.{zip, placeVariables, placeSection, placeSections, placeOuterNames, placeBufferParts, placeBuffers}
+use Rattle.writing.specs.Layout.{zip, placeVariables, placeSection, placeSections, placeBufferParts, placeBuffers}
 use Rattle.writing.specs.Canonical.{bytesOracle}
 use Rattle.writing.proofs.Sizes.{rows-length, variable-words-length, buffer-words-length, variables-length, buffer-parts-length}
 use Rattle.round_trip.specs.RoundTrip.{Words, bufferNumbers, placesOf, sectionOffsets}

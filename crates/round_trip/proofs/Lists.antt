@@ -1,17 +1,14 @@
 -- General facts about lists, each by induction on the list: the end of a map, what holds of every element, what a test over all elements says, and two or
 -- three lists side by side.
-use mathlib.Core.Path.{_≡_, refl, ap, _∙_, subst}
+use mathlib.Core.Path.{_≡_, refl, ap, subst}
 use mathlib.Core.List.{List, [], _∷_, _++_, map}
 use mathlib.Core.Bool.{Bool, true, false}
 use mathlib.Core.Option.{some, Option·none-ne-some, Option·some-injective}
-use Prim.Native.Nat.{ℕ, zero, suc, _+_, _*_}
-use native.Mathlib.Omega.{arith}
-use lib.ListN.{length, drop, length-append}
+use Prim.Native.Nat.{ℕ, zero, suc, _+_}
+use lib.ListN.{length, drop}
 use Rattle.text.proofs.Bools.{and-true}
 use Rattle.readable.specs.Readable.{every}
 use Rattle.writing.specs.Step.{find, hit}
-use Rattle.writing.specs.Records.{rows}
-use Rattle.writing.specs.Layout.{zip}
 
 pub drop-map : {A B : Type 0} (f : A → B) (n : ℕ) (l : List A) → drop n (map f l) ≡ map f (drop n l)
 drop-map f zero l = refl

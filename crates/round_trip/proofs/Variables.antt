@@ -3,7 +3,7 @@
 use mathlib.Core.Path.{_≡_, refl, ap, sym, _∙_, subst}
 use mathlib.Core.List.{List, [], _∷_}
 use mathlib.Core.Bool.{Bool, true, false}
-use Prim.Native.Nat.{ℕ, suc, _+_, _*_, _<_, _≤_}
+use Prim.Native.Nat.{ℕ, _+_, _*_, _<_, _≤_}
 use native.Mathlib.Omega.{arith}
 use native.Mathlib.Nat.{add-zero}
 use lib.ListN.{length, getD}
@@ -16,8 +16,8 @@ use Rattle.reflection.specs.Texts.{inChunk}
 use Rattle.reflection.specs.Contents.{Bytes}
 use Rattle.reading.specs.Step.{Room, room}
 use Rattle.reading.specs.Read.{variableStride, wordIf, readType, defaultAt, variableFrom, readVariable}
-use Rattle.writing.specs.Step.{Cell, Pools, _>>=_, return}
-use Rattle.writing.specs.Records.{VariableOffsets, variableWords, variableSize, wordsIf}
+use Rattle.writing.specs.Step.{Cell}
+use Rattle.writing.specs.Records.{VariableOffsets, variableWords, wordsIf}
 use Rattle.writing.specs.Layout.{placeVariable, placeVariables}
 use Rattle.writing.specs.Canonical.{bytesOracle}
 use Rattle.round_trip.specs.RoundTrip.{Words}

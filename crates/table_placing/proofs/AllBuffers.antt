@@ -24,8 +24,7 @@ use Rattle.table_placing.specs.Offsets.{bufferName, sectionStart, buffer
 use Rattle.table_placing.specs.Placed.{poolsAt, nameAt, storedAt, NamesRoom, NamesPlaced}
 use Rattle.table_placing.specs.Moved.{Within}
 use Rattle.table_placing.specs.Sections.{Fit, SectionsPlaced, Unplaced, BuffersPlaced}
-use Rattle.table_placing.proofs.Lists.{length-records, map-records, same-records, zip-records, rows-records, same-rows, length-rows}
-use Rattle.table_placing.proofs.Rows.{length-buffer-row}
+use Rattle.table_placing.proofs.Lists.{length-records, map-records, same-records, zip-records, rows-records, same-rows}
 use Rattle.table_placing.proofs.Steps.{ran-no-buffers, ran-buffers}
 use Rattle.table_placing.proofs.Pools.{inner-same, defaults-same, ran-from}
 use Rattle.table_placing.proofs.OneSection.{padding-near}
@@ -48,14 +47,13 @@ no-buffers chunk edits buffers variables types sm5 {count} {at} s out none ready
 -- The law of the buffers, for the records of a table.
 some-buffers : (chunk edits : List ℕ) (sm5 : Bool) (held : ℕ → CBufferDef Text Text) (count : ℕ) {at start mid to end : ℕ} {ps ps₁ ps₂ : Pools Text Text} {out out₁ out₂ out₃ out₄ names : List ℕ} {sections : List Section}
     → (count ≡ 0 → ⊥) → Put out at (replicate (paddingAt at) 0xab) out₁ start
-    → length (rows bufferWords (recordsFrom held 0 count) (zip names sections)) ≡ length (recordsFrom held 0 count) * 6
     → Ran chunk edits (placeOuterNames (textOracle chunk edits) (map (λ b. b .name) (recordsFrom held 0 count))) (start + 4 * (length (recordsFrom held 0 count) * 6)) ps out₁ out₂ names mid ps₁
     → Ran chunk edits (placeSections (textOracle chunk edits) sm5 (recordsFrom held 0 count)) mid ps₁ out₂ out₃ sections to ps₂
     → Put out₃ start (joinedBytes (rows bufferWords (recordsFrom held 0 count) (zip names sections))) out₄ end
     → Ran chunk edits (placeBuffers (textOracle chunk edits) sm5 (recordsFrom held 0 count)) at ps out out₄ (start, zip names sections) to ps₂
 unfolding recordsFrom
-some-buffers chunk edits sm5 held zero some padded long named placed written = absurd (some refl)
-some-buffers chunk edits sm5 held (suc m) some padded long named placed written = ran-buffers chunk edits sm5 (held 0) (recordsFrom held 1 m) padded long named placed written
+some-buffers chunk edits sm5 held zero some padded named placed written = absurd (some refl)
+some-buffers chunk edits sm5 held (suc m) some padded named placed written = ran-buffers chunk edits sm5 (held 0) (recordsFrom held 1 m) padded named placed written
 
 module _ {chunk edits : List ℕ} (buffers types : List ℕ) {count at start : ℕ} {s out out₁ : List ℕ} (ready : Ready chunk edits s) (unplaced : Unplaced count at s) (fit : Fit buffers types count) (few : count ≤ 64)
     (padded : Put out at (replicate (paddingAt at) 0xab) out₁ start) where
@@ -102,9 +100,6 @@ module _ {chunk edits : List ℕ} (buffers types : List ℕ) {count at start : �
       all-rows : rows bufferWords bs (zip (recordsFrom (bufferName s₂) 0 count) (recordsFrom (bufferSection buffers s₂) 0 count)) ≡ rowsFrom (bufferRow buffers s₂) 0 count
       all-rows = ap (rows bufferWords bs) zipped ∙ rows-records bufferWords held offsets 0 count ∙ same-rows (λ i. bufferWords (held i) (offsets i)) (bufferRow buffers s₂) 0 count one-row
 
-      long-rows : length (rows bufferWords bs (zip (recordsFrom (bufferName s₂) 0 count) (recordsFrom (bufferSection buffers s₂) 0 count))) ≡ length bs * 6
-      long-rows = ap length all-rows ∙ length-rows (bufferRow buffers s₂) 6 0 count (length-buffer-row buffers s₂) ∙ ap (λ (x : ℕ). x * 6) (sym (length-records held 0 count))
-
       names-are : recordsFrom (nameAt bufferWidth buffers) 0 count ≡ map (λ b. b .name) bs
       unfolding nameAt bufferHeld bufferFrom bufferAt
       names-are = sym (map-records (λ (b : CBufferDef Text Text). b .name) held 0 count)
@@ -127,7 +122,7 @@ module _ {chunk edits : List ℕ} (buffers types : List ℕ) {count at start : �
         n = r .n;
         ran =
             ran-like chunk edits refl refl (ap (λ (x : List (ℕ × Section)). (start, x)) zipped)
-            (some-buffers chunk edits sm5 held count some padded long-rows named-ran (placed .ran) (subst (λ x. Put out₃ start (joinedBytes x) out₄ end) (sym all-rows) written));
+            (some-buffers chunk edits sm5 held count some padded named-ran (placed .ran) (subst (λ x. Put out₃ start (joinedBytes x) out₄ end) (sym all-rows) written));
         ready = placed .moved .ready;
         long = placed .moved .long ∙ named .same .long;
         names =

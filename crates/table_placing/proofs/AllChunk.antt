@@ -3,14 +3,15 @@
 use mathlib.Core.Path.{_≡_, refl, ap, sym, _∙_, subst}
 use mathlib.Core.Bool.{Bool}
 use mathlib.Core.List.{List, [], _∷_, map}
+use mathlib.Core.Logic.{_⊎_, ⊎-elim}
 use Prim.Native.Nat.{ℕ, _+_, _*_, _≤_}
 use native.Mathlib.Nat.{zero-add, mul-one, mul-le-mul-left}
 use native.Mathlib.Omega.{arith}
 use lib.ListN.{length, getD, replicate, length-map}
-use Rattle.words.specs.Splice.{Put}
+use Rattle.words.specs.Splice.{Put, put-length}
 use Rattle.reflection.specs.declared.Text.{Text}
 use Rattle.reflection.specs.declared.ResourceDef.{ResourceDef as Header}
-use Rattle.reflection.specs.Reflection.{ResourceBinding, ResourceDef, Rd11, noRd11, rd11, isSm5, isWide}
+use Rattle.reflection.specs.Reflection.{ResourceBinding, ResourceDef, Rd11, isSm5, isWide}
 use Rattle.reflection.specs.Texts.{textBytes}
 use Rattle.reflection.specs.Contents.{contents}
 use Rattle.reflection.specs.Records.{bindingWidth, bindingAt}
@@ -31,9 +32,8 @@ use Rattle.table_placing.specs.Held.{bufferHeld, reflectionHeld, Sized}
 use Rattle.table_placing.specs.Offsets.{bufferName, bufferSection, bindingName, rowsFrom, bindingRow, headerRow}
 use Rattle.table_placing.specs.Placed.{poolsAt, nameAt, storedAt, NamesRoom, NamesPlaced}
 use Rattle.table_placing.specs.Sections.{Fit, Unplaced, BuffersPlaced}
-use Rattle.table_placing.specs.Chunk.{PoolsBegun, ChunkWritten}
-use Rattle.table_placing.proofs.Lists.{length-records, map-records, same-records, rows-records, length-rows}
-use Rattle.table_placing.proofs.Rows.{length-binding-row}
+use Rattle.table_placing.specs.Chunk.{TooLong, PoolsBegun, ChunkWritten}
+use Rattle.table_placing.proofs.Lists.{length-records, map-records, same-records, rows-records}
 use Rattle.table_placing.proofs.Steps.{ran-chunk}
 use Rattle.table_placing.proofs.Pools.{inner-same, defaults-same, ran-from, text-placed-at}
 
@@ -56,14 +56,6 @@ binding-stored s n = same-records (storedAt bindingsStart 1 s) (bindingName s) 0
 
 length-bindings : (bindings : List ℕ) (n : ℕ) → length (map bindingFrom (recordsFrom (bindingAt bindings) 0 n)) ≡ n
 length-bindings bindings n = length-map (recordsFrom (bindingAt bindings) 0 n) bindingFrom ∙ length-records (bindingAt bindings) 0 n
-
-length-header : (h : Header) (buffers creator : ℕ) → length (headerRow h buffers creator) ≡ headerSize (isSm5 (rd11From h))
-unfolding headerRow rd11Words
-length-header h buffers creator = go (rd11From h)
-  where
-    go : (x : Rd11) → length (h .«buffer_count» ∷ buffers ∷ h .«binding_count» ∷ 4 * headerSize (isSm5 x) ∷ h .«target_version» ∷ h .«compile_flags» ∷ creator ∷ rd11Words x) ≡ headerSize (isSm5 x)
-    go noRd11 = refl
-    go (rd11 identifier stride slots) = refl
 
 -- There is room at each call.
 pub bindings-behind : (h : Header) (buffers types : List ℕ) {bsize : ℕ} → Sized h buffers types → bsize ≤ 10 → h .«binding_count» * bsize ≤ 10240
@@ -127,12 +119,6 @@ module _ (h : Header) (buffers types : List ℕ) {s s₀ : List ℕ} {hsize bsiz
       all-rows : rows (bindingWords (isWide x)) (map bindingFrom (recordsFrom (bindingAt bindings) 0 n)) (recordsFrom (bindingName s₁) 0 n) ≡ rowsFrom (bindingRow (isWide x) bindings s₁) 0 n
       all-rows = binding-rows (isWide x) bindings s₁ n
 
-      long-rows : length (rows (bindingWords (isWide x)) (map bindingFrom (recordsFrom (bindingAt bindings) 0 n)) (recordsFrom (bindingName s₁) 0 n))
-          ≡ length (map bindingFrom (recordsFrom (bindingAt bindings) 0 n)) * bindingSize (isWide x)
-      long-rows =
-          ap length all-rows ∙ length-rows (bindingRow (isWide x) bindings s₁) (bindingSize (isWide x)) 0 n (length-binding-row (isWide x) bindings s₁)
-          ∙ ap (λ (k : ℕ). k * bindingSize (isWide x)) (sym (length-bindings bindings n))
-
       written : Put out₁ (0 + 4 * headerSize (isSm5 x)) (joinedBytes (rows (bindingWords (isWide x)) (map bindingFrom (recordsFrom (bindingAt bindings) 0 n)) (recordsFrom (bindingName s₁) 0 n))) out₂ e₁
       written =
           let words = ap (λ (w : Bool). rowsFrom (bindingRow w bindings s₁) 0 n) is-wide ∙ sym all-rows in
@@ -145,10 +131,10 @@ module _ (h : Header) (buffers types : List ℕ) {s s₀ : List ℕ} {hsize bsiz
           let m = sym (length-records (bufferHeld buffers variables types) 0 (h .«buffer_count»)) in
           λ i. m i ∷ b .offset ∷ l i ∷ 4 * headerSize (isSm5 x) ∷ h .«target_version» ∷ h .«compile_flags» ∷ c .offset ∷ rd11Words x
 
-      laid-out : Put out 0 (cellBytes chunk edits (layout (textOracle chunk edits) r .cells)) out₆ end
+      laid-out : Put out 0 (cellBytes chunk edits (layout (textOracle chunk edits) r .cells)) out₆ end ⊎ TooLong (cellBytes chunk edits (layout (textOracle chunk edits) r .cells)) out out₆ end
       unfolding reflectionHeld
       laid-out =
-          ran-chunk chunk edits r long-rows (ap length (sym header-is) ∙ length-header h (b .offset) (c .offset)) named-ran written
+          ran-chunk chunk edits r named-ran written
           (subst (λ v. BuffersPlaced chunk edits buffers variables types v (h .«buffer_count») at₁ s₁ s₂ out₂ out₃ b) is-sm5 placed .ran) (text-placed-at types (placed .roots) (placed .n) created (omega arith)) padded
           (subst (λ w. Put out₅ 0 (joinedBytes w) out₆ e₂) header-is headed)
 
@@ -158,6 +144,10 @@ module _ (h : Header) (buffers types : List ℕ) {s s₀ : List ℕ} {hsize bsiz
 
       pub chunk-written : ChunkWritten chunk edits h bindings buffers variables types s s₃ out out₆ end
       chunk-written = record {
-        put = subst (λ bytes. Put out 0 bytes out₆ end) is-canonical laid-out;
+        written = subst (λ bytes. Put out 0 bytes out₆ end ⊎ TooLong bytes out out₆ end) is-canonical laid-out;
         long = created .kept .long ∙ placed .long ∙ named .same .long ∙ begun .long;
       }
+
+-- The output keeps its length.
+pub chunk-long : {chunk edits : List ℕ} {h : Header} {bindings buffers variables types s s′ out out′ : List ℕ} {r : ℕ} → ChunkWritten chunk edits h bindings buffers variables types s s′ out out′ r → length out′ ≡ length out
+chunk-long w = ⊎-elim (λ p. put-length p) (λ p. p .long) (w .written)

@@ -31,8 +31,7 @@ use Rattle.table_placing.specs.Offsets.{variableOffsets, sectionStart, b
 use Rattle.table_placing.specs.Placed.{poolsAt}
 use Rattle.table_placing.specs.Moved.{Moved, VariablesPlaced}
 use Rattle.table_placing.specs.Sections.{SectionPlaced}
-use Rattle.table_placing.proofs.Lists.{length-records, same-records, rows-records, length-rows}
-use Rattle.table_placing.proofs.Rows.{length-variable-row}
+use Rattle.table_placing.proofs.Lists.{length-records, same-records, rows-records}
 use Rattle.table_placing.proofs.Steps.{ran-section}
 use Rattle.table_placing.proofs.Pools.{kept-set, pools-at-kept, ran-from}
 
@@ -91,11 +90,6 @@ module _ {chunk edits : List ℕ} (buffers variables types : List ℕ) {sm5 : Bo
   long-vs : length vs ≡ count
   long-vs = length-records (variableHeld variables types) j count
 
-  long-rows : length (rows (variableWords sm5) vs os) ≡ length vs * variableSize sm5
-  long-rows =
-      ap length (variable-rows sm5 variables types s₁ j count) ∙ length-rows (variableRow sm5 variables s₁) (variableSize sm5) j count (length-variable-row sm5 variables s₁)
-      ∙ ap (λ (x : ℕ). x * variableSize sm5) (sym long-vs)
-
   variables-ran : Ran chunk edits (placeVariables (textOracle chunk edits) sm5 (eqb (bufferAt buffers i .«cb_type») 0) vs) (start + 4 * (length vs * variableSize sm5)) (poolsAt types s roots n)
       out₁ out₂ os (r .at) (poolsAt types s₁ (r .roots) (r .n))
   variables-ran =
@@ -106,7 +100,7 @@ module _ {chunk edits : List ℕ} (buffers variables types : List ℕ) {sm5 : Bo
   unfolding bufferHeld bufferFrom
   all-ran =
       ran-like chunk edits refl (sym (pools-at-kept types (r .roots) (r .n) (placed .moved .ready) kept (omega arith) shared-room room)) stored
-      (ran-section chunk edits sm5 (bufferHeld buffers variables types i) padded long-rows variables-ran
+      (ran-section chunk edits sm5 (bufferHeld buffers variables types i) padded variables-ran
       (subst (λ x. Put out₂ start (joinedBytes x) out₃ end) (sym (variable-rows sm5 variables types s₁ j count)) written))
 
   moved : Moved chunk edits j count k (r .next) n (r .n) roots (r .roots) s s₂

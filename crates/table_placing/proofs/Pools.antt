@@ -6,7 +6,7 @@ use Prim.Native.Nat.{ℕ, _+_, _≤_}
 use native.Mathlib.Omega.{arith}
 use lib.ListN.{length, set, length-set}
 use lib.Seq.{getD-set-other}
-use Rattle.words.specs.Splice.{splice, length-splice, put-length}
+use Rattle.words.specs.Splice.{splice, length-splice}
 use Rattle.words.proofs.Splice.{splice-keeps-before, splice-keeps-after}
 use Rattle.reflection.specs.declared.Text.{Text}
 use Rattle.reflection.specs.Reflection.{TypeDesc}
@@ -17,7 +17,7 @@ use Rattle.placing.specs.Ran.{Ran}
 use Rattle.placing.specs.Scratch.{innerStart, defaultsStart, rootTypesStart, recordsStart, scratchEnd, innerPool, defaultPool, typesFrom, poolsIn, Ready}
 use Rattle.placing.specs.InScratch.{Kept, TextPlaced}
 use Rattle.placing.proofs.Regions.{region-agree, types-kept-before, types-kept-after}
-use Rattle.placing.proofs.Runs.{ran-like}
+use Rattle.placing.proofs.Runs.{ran-like, ran-long}
 use Rattle.placing.proofs.ScratchPools.{pools-kept-before}
 use Rattle.type_equality.specs.Trees.{typeTree}
 use Rattle.table_placing.specs.Placed.{poolsAt, Same}
@@ -62,10 +62,6 @@ kept-splice s k xs = record {
   before = λ i h. splice-keeps-before s k i xs 0 h;
   after = λ i h. splice-keeps-after s k i xs 0 h;
 }
-
--- A run keeps the output's length.
-pub ran-long : {chunk edits : List ℕ} {A : Type 0} {step : Step Text Text A} {at to : ℕ} {ps ps′ : Pools Text Text} {out out′ : List ℕ} {a : A} → Ran chunk edits step at ps out out′ a to ps′ → length out′ ≡ length out
-ran-long ran = put-length (ran .put)
 
 -- The same run from an equal cursor.
 pub ran-from : {chunk edits : List ℕ} {A : Type 0} {step : Step Text Text A} {at at′ to : ℕ} {ps ps′ : Pools Text Text} {out out′ : List ℕ} {a : A} → at ≡ at′ → Ran chunk edits step at ps out out′ a to ps′

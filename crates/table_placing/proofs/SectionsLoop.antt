@@ -10,6 +10,7 @@ use Rattle.reflection.specs.Decode.{recordsFrom}
 use Rattle.writing.specs.Layout.{placeSections}
 use Rattle.placing.specs.Ran.{textOracle}
 use Rattle.placing.specs.Scratch.{buffersStart, Ready}
+use Rattle.placing.proofs.Runs.{ran-long}
 use Rattle.table_placing.specs.declared.Reached.{Reached}
 use Rattle.table_placing.specs.Held.{rootAt, countAt, firstVariable, bufferHeld}
 use Rattle.table_placing.specs.Offsets.{variableOffsets, bufferName, sectionStart, bufferSection}
@@ -19,7 +20,6 @@ use Rattle.table_placing.specs.Sections.{Fit, SectionPlaced, SectionsPla
 use Rattle.table_placing.proofs.Lists.{same-records, records-more, records-left, records-done}
 use Rattle.table_placing.proofs.Many.{SoFar, so-far-none, so-far-like, so-far-more, so-far-all}
 use Rattle.table_placing.proofs.Steps.{each-section}
-use Rattle.table_placing.proofs.Pools.{ran-long}
 use Rattle.table_placing.proofs.VariablesLoop.{root-up, moved-none, moved-then, within-moved, offsets-kept}
 use Rattle.table_placing.proofs.SectionRoom.{first-next}
 

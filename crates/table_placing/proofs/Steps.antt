@@ -1,21 +1,26 @@
 -- From names, types and defaults to the whole chunk: what the code has to hand over for a variable, a section, the buffers and the chunk, and that it is then a
 -- run of that step. Each follows the definition step by step.
-use mathlib.Core.Path.{_≡_, refl}
+use mathlib.Core.Path.{_≡_, refl, _∙_}
 use mathlib.Core.Bool.{Bool}
 use mathlib.Core.List.{List, [], _∷_, map}
+use mathlib.Core.Logic.{_⊎_, inl, inr, ⊎-elim}
 use Prim.Native.Nat.{ℕ, _+_, _*_}
+use native.Mathlib.Omega.{arith}
 use lib.Dec.{eqb}
-use lib.ListN.{length, replicate}
+use lib.ListN.{length, replicate, length-map}
 use Rattle.words.specs.Splice.{Put}
 use Rattle.reflection.specs.declared.Text.{Text}
 use Rattle.reflection.specs.Reflection.{CBufferVariable, CBufferDef, ResourceDef, isSm5, isWide}
 use Rattle.writing.specs.Step.{Pools, pools, paddingAt}
 use Rattle.writing.specs.Records.{VariableOffsets, Section, rows, variableWords, variableSize, bufferWords, bindingWords, bindingSize, headerWords, headerSize}
 use Rattle.writing.specs.Layout.{zip, placeOuterName, placeInnerName, placeDefault, placeType, placeVariable, placeVariables, placeSection, placeSections, placeOuterNames, placeBufferParts, placeBuffers, placeBody, placeChunk, layout}
+use Rattle.writing.proofs.Sizes.{rows-length, variable-words-length, buffer-words-length, binding-words-length, header-words-length, variables-length, outer-names-length, buffer-parts-length}
 use Rattle.placing.specs.Ran.{Ran, textOracle, cellBytes}
 use Rattle.placing.specs.Bytes.{joinedBytes}
+use Rattle.placing.proofs.CellBytes.{length-cell-bytes}
 use Rattle.placing.proofs.Runs.{ran-bind, ran-return, ran-pad}
 use Rattle.placing.proofs.Ahead.{ran-ahead}
+use Rattle.table_placing.specs.Chunk.{TooLong}
 use Rattle.table_placing.proofs.Many.{Each}
 
 pub each-outer-name : (chunk edits : List ℕ) → Each (placeOuterNames (textOracle chunk edits)) (placeOuterName (textOracle chunk edits))
@@ -44,14 +49,20 @@ module _ (chunk edits : List ℕ) (sm5 : Bool) where
   -- A section: padding, the variables from behind the room for their records, and the records into the room.
   pub ran-section : (b : CBufferDef Text Text) {at start to end : ℕ} {ps ps′ : Pools Text Text} {out out₁ out₂ out₃ : List ℕ} {os : List VariableOffsets}
       → Put out at (replicate (paddingAt at) 0xab) out₁ start
-      → length (rows (variableWords sm5) (b .variables) os) ≡ length (b .variables) * variableSize sm5
       → Ran chunk edits (placeVariables (textOracle chunk edits) sm5 (eqb (b .cb-type) 0) (b .variables)) (start + 4 * (length (b .variables) * variableSize sm5)) ps out₁ out₂ os to ps′
       → Put out₂ start (joinedBytes (rows (variableWords sm5) (b .variables) os)) out₃ end
       → Ran chunk edits (placeSection (textOracle chunk edits) sm5 b) at ps out out₃ (record { start = start; offsets = os }) to ps′
   unfolding placeSection
-  ran-section b padded long placed written =
+  ran-section b {start = start} {ps = ps} padded placed written =
       ran-bind chunk edits _ (ran-pad chunk edits padded)
-      (ran-bind chunk edits _ (ran-ahead chunk edits (length (b .variables) * variableSize sm5) (rows (variableWords sm5) (b .variables)) long placed written) (ran-return chunk edits _ _ _ _))
+      (ran-bind chunk edits _ (ran-ahead chunk edits (length (b .variables) * variableSize sm5) (rows (variableWords sm5) (b .variables)) sized placed written) (ran-return chunk edits _ _ _ _))
+    where
+      share : Bool
+      share = eqb (b .cb-type) 0
+
+      sized : length (rows (variableWords sm5) (b .variables) (placeVariables (textOracle chunk edits) sm5 share (b .variables) (start + 4 * (length (b .variables) * variableSize sm5)) ps .result))
+          ≡ length (b .variables) * variableSize sm5
+      sized = rows-length (variableWords sm5) (variableSize sm5) (variable-words-length sm5) (b .variables) _ (variables-length (textOracle chunk edits) sm5 share (b .variables) _ ps)
 
   pub ran-no-buffers : (at : ℕ) (ps : Pools Text Text) (out : List ℕ) → Ran chunk edits (placeBuffers (textOracle chunk edits) sm5 []) at ps out out (0, []) at ps
   unfolding placeBuffers
@@ -60,22 +71,22 @@ module _ (chunk edits : List ℕ) (sm5 : Bool) where
   -- The buffers: padding, their names and sections from behind the room for their records, and the records into the room.
   pub ran-buffers : (b : CBufferDef Text Text) (bs : List (CBufferDef Text Text)) {at start mid to end : ℕ} {ps ps₁ ps₂ : Pools Text Text} {out out₁ out₂ out₃ out₄ names : List ℕ} {sections : List Section}
       → Put out at (replicate (paddingAt at) 0xab) out₁ start
-      → length (rows bufferWords (b ∷ bs) (zip names sections)) ≡ length (b ∷ bs) * 6
       → Ran chunk edits (placeOuterNames (textOracle chunk edits) (map (λ b. b .name) (b ∷ bs))) (start + 4 * (length (b ∷ bs) * 6)) ps out₁ out₂ names mid ps₁
       → Ran chunk edits (placeSections (textOracle chunk edits) sm5 (b ∷ bs)) mid ps₁ out₂ out₃ sections to ps₂
       → Put out₃ start (joinedBytes (rows bufferWords (b ∷ bs) (zip names sections))) out₄ end
       → Ran chunk edits (placeBuffers (textOracle chunk edits) sm5 (b ∷ bs)) at ps out out₄ (start, zip names sections) to ps₂
   unfolding placeBuffers placeBufferParts
-  ran-buffers b bs padded long named placed written =
+  ran-buffers b bs {start = start} {ps = ps} padded named placed written =
       ran-bind chunk edits _ (ran-pad chunk edits padded)
-      (ran-bind chunk edits _ (ran-ahead chunk edits (length (b ∷ bs) * 6) (rows bufferWords (b ∷ bs)) long (ran-bind chunk edits _ named (ran-bind chunk edits _ placed (ran-return chunk edits _ _ _ _))) written)
+      (ran-bind chunk edits _ (ran-ahead chunk edits (length (b ∷ bs) * 6) (rows bufferWords (b ∷ bs)) sized (ran-bind chunk edits _ named (ran-bind chunk edits _ placed (ran-return chunk edits _ _ _ _))) written)
       (ran-return chunk edits _ _ _ _))
+    where
+      sized : length (rows bufferWords (b ∷ bs) (placeBufferParts (textOracle chunk edits) sm5 (b ∷ bs) (start + 4 * (length (b ∷ bs) * 6)) ps .result)) ≡ length (b ∷ bs) * 6
+      sized = rows-length bufferWords 6 buffer-words-length (b ∷ bs) _ (buffer-parts-length (textOracle chunk edits) sm5 (b ∷ bs) _ ps)
 
 -- The chunk: the bindings' names from behind the room for the header and the bindings' records, those records into their room, the buffers, the creator, padding,
 -- and the header into its room.
 pub ran-chunk : (chunk edits : List ℕ) (r : ResourceDef Text Text) {at₁ at₂ at₃ at₄ creator e₁ e₂ : ℕ} {ps₁ ps₂ ps₃ : Pools Text Text} {out out₁ out₂ out₃ out₄ out₅ out₆ names : List ℕ} {buffers : ℕ × List (ℕ × Section)}
-    → length (rows (bindingWords (isWide (r .rd11))) (r .bindings) names) ≡ length (r .bindings) * bindingSize (isWide (r .rd11))
-    → length (headerWords r (record { buffers = buffers .0; sections = buffers .1; creator = creator })) ≡ headerSize (isSm5 (r .rd11))
     → Ran chunk edits (placeOuterNames (textOracle chunk edits) (map (λ b. b .name) (r .bindings)))
     (0 + 4 * headerSize (isSm5 (r .rd11)) + 4 * (length (r .bindings) * bindingSize (isWide (r .rd11)))) (pools [] [] [] [] []) out out₁ names at₁ ps₁
     → Put out₁ (0 + 4 * headerSize (isSm5 (r .rd11))) (joinedBytes (rows (bindingWords (isWide (r .rd11))) (r .bindings) names)) out₂ e₁
@@ -83,11 +94,21 @@ pub ran-chunk : (chunk edits : List ℕ) (r : ResourceDef Text Text) {at₁ at�
     → Ran chunk edits (placeInnerName (textOracle chunk edits) (r .creator)) at₂ ps₂ out₃ out₄ creator at₃ ps₃
     → Put out₄ at₃ (replicate (paddingAt at₃) 0xab) out₅ at₄
     → Put out₅ 0 (joinedBytes (headerWords r (record { buffers = buffers .0; sections = buffers .1; creator = creator }))) out₆ e₂
-    → Put out 0 (cellBytes chunk edits (layout (textOracle chunk edits) r .cells)) out₆ at₄
+    → Put out 0 (cellBytes chunk edits (layout (textOracle chunk edits) r .cells)) out₆ at₄ ⊎ TooLong (cellBytes chunk edits (layout (textOracle chunk edits) r .cells)) out out₆ at₄
 unfolding layout placeChunk placeBody
-ran-chunk chunk edits r long-bindings long-header named bound buffered created padded headed =
-    ran-ahead chunk edits (headerSize (isSm5 (r .rd11))) (headerWords r) long-header
-    (ran-bind chunk edits _ (ran-ahead chunk edits (length (r .bindings) * bindingSize (isWide (r .rd11))) (rows (bindingWords (isWide (r .rd11))) (r .bindings)) long-bindings named bound)
+ran-chunk chunk edits r named bound buffered created padded headed =
+    ⊎-elim (λ p. inl (p .put)) (λ p. inr (record { reached = p .reached; defined = omega (arith, p .defined, length-cell-bytes chunk edits (layout (textOracle chunk edits) r .cells)); long = p .long }))
+    (ran-ahead chunk edits (headerSize (isSm5 (r .rd11))) (headerWords r) (header-words-length r _)
+    (ran-bind chunk edits _ (ran-ahead chunk edits (length (r .bindings) * bindingSize (isWide (r .rd11))) (rows (bindingWords (isWide (r .rd11))) (r .bindings)) sized named bound)
     (ran-bind chunk edits _ buffered (ran-bind chunk edits _ created (ran-bind chunk edits _ (ran-pad chunk edits padded) (ran-return chunk edits _ _ _ _)))))
     headed
-    .put
+    .known)
+  where
+    names-at : ℕ
+    names-at = 0 + 4 * headerSize (isSm5 (r .rd11)) + 4 * (length (r .bindings) * bindingSize (isWide (r .rd11)))
+
+    sized : length (rows (bindingWords (isWide (r .rd11))) (r .bindings) (placeOuterNames (textOracle chunk edits) (map (λ b. b .name) (r .bindings)) names-at (pools [] [] [] [] []) .result))
+        ≡ length (r .bindings) * bindingSize (isWide (r .rd11))
+    sized =
+        rows-length (bindingWords (isWide (r .rd11))) (bindingSize (isWide (r .rd11))) (binding-words-length (isWide (r .rd11))) (r .bindings) _
+        (outer-names-length (textOracle chunk edits) (map (λ b. b .name) (r .bindings)) names-at (pools [] [] [] [] []) ∙ length-map (r .bindings) (λ b. b .name))

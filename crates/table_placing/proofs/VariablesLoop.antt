@@ -13,7 +13,7 @@ use Rattle.reflection.specs.Decode.{recordsFrom, variableFrom}
 use Rattle.writing.specs.Layout.{placeVariable, placeVariables}
 use Rattle.placing.specs.Ran.{textOracle}
 use Rattle.placing.specs.Scratch.{variablesStart, buffersStart, Ready}
-use Rattle.placing.proofs.Runs.{ran-step}
+use Rattle.placing.proofs.Runs.{ran-long, ran-step}
 use Rattle.type_equality.specs.Trees.{treeAt, typeTree}
 use Rattle.type_equality.proofs.Trees.{tree-up}
 use Rattle.type_placing.specs.Room.{nodeLimit}
@@ -25,7 +25,6 @@ use Rattle.table_placing.specs.Moved.{Within, Moved, VariablePlaced, Var
 use Rattle.table_placing.proofs.Lists.{records-more, records-left-from, records-done-from}
 use Rattle.table_placing.proofs.Many.{SoFar, so-far-none, so-far-like, so-far-more, so-far-all}
 use Rattle.table_placing.proofs.Steps.{each-variable}
-use Rattle.table_placing.proofs.Pools.{ran-long}
 
 -- The nodes of later variables come later.
 pub root-up : (types : List ℕ) (j m : ℕ) → rootAt types j ≤ rootAt types (j + m)

@@ -1,7 +1,8 @@
--- What writing a chunk does: the scratch's pools begin empty, and the output then holds the canonical form of what the tables hold.
+-- What writing a chunk does: the scratch's pools begin empty, and the output then holds the canonical form of what the tables hold, or that is too long.
 use mathlib.Core.Path.{_≡_}
 use mathlib.Core.List.{List, []}
-use Prim.Native.Nat.{ℕ}
+use mathlib.Core.Logic.{_⊎_}
+use Prim.Native.Nat.{ℕ, _<_}
 use lib.ListN.{length}
 use Rattle.words.specs.Splice.{Put}
 use Rattle.reflection.specs.declared.ResourceDef.{ResourceDef as Header}
@@ -9,6 +10,7 @@ use Rattle.reflection.specs.Contents.{contents}
 use Rattle.writing.specs.Step.{pools}
 use Rattle.writing.specs.Canonical.{canonical}
 use Rattle.text_pool.specs.Pool.{entryCount}
+use Rattle.placing.specs.Ran.{chunkLimit}
 use Rattle.placing.specs.Scratch.{outerPool, innerPool, defaultPool, Ready}
 use Rattle.table_placing.specs.Held.{reflectionHeld}
 use Rattle.table_placing.specs.Placed.{poolsAt}
@@ -22,7 +24,14 @@ pub record PoolsBegun (s s′ : List ℕ) : Type 0 where
   pub no-inner : entryCount (innerPool s′) ≡ 0
   pub no-defaults : entryCount (defaultPool s′) ≡ 0
 
--- The chunk was written.
+-- The chunk is too long, by the code's cursor and by the definition; the output is as long as it was.
+pub record TooLong (bytes out out′ : List ℕ) (r : ℕ) : Type 0 where
+  pub reached : chunkLimit < r
+  pub defined : chunkLimit < length bytes
+  pub long : length out′ ≡ length out
+
+-- The chunk was written, or it is too long.
 pub record ChunkWritten (chunk edits : List ℕ) (h : Header) (bindings buffers variables types s s′ out out′ : List ℕ) (r : ℕ) : Type 0 where
-  pub put : Put out 0 (canonical (contents chunk edits (reflectionHeld h bindings buffers variables types))) out′ r
+  pub written : Put out 0 (canonical (contents chunk edits (reflectionHeld h bindings buffers variables types))) out′ r
+      ⊎ TooLong (canonical (contents chunk edits (reflectionHeld h bindings buffers variables types))) out out′ r
   pub long : length s′ ≡ length s

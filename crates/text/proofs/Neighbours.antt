@@ -10,12 +10,12 @@ use borrow.Author.Tests.{le-leb, lt-leb, lt-ltb, le-ltb, ne-eqb, leb-true, ltb-t
 use lib.Dec.{eqb, leb, ltb}
 use lib.ListN.{length, getD, replicate, drop, drop-of-length-le}
 use lib.Seq.{drop-cons}
-use Rattle.text.specs.Utf8.{Left, holds, tail, table37, begun, step, run, whole, wellFormed}
+use Rattle.text.specs.Utf8.{Left, tail, table37, begun, run, whole, wellFormed}
 use Rattle.text.specs.Sequences.{tailsAfter, lowestAfter, highestAfter}
 use Rattle.text.specs.Neighbours.{tailDue, mayFollow, mayBegin, fits, fitsFrom}
 use Rattle.text.proofs.Bools.{and-true, and-assoc}
 use Rattle.text.proofs.Runs.{begun-ascii, run-ill-formed}
-use Rattle.text.proofs.Sequences.{awaits, awaitsAfter, awaits-tails, awaits-not-whole, byNumbers, begun-by-numbers}
+use Rattle.text.proofs.Sequences.{awaits, awaits-tails, awaits-not-whole, byNumbers, begun-by-numbers}
 
 or-true : (a : Bool) → (a || true) ≡ true
 or-true true = refl

@@ -1,5 +1,5 @@
 -- Well-formed UTF-8 by each byte and the three before it, as `utf8_ok` tests long texts: proofs/Neighbours.antt shows that it is Table 3-7.
-use mathlib.Core.Bool.{Bool, true, not, _&&_, _||_, cond}
+use mathlib.Core.Bool.{Bool, not, _&&_, _||_, cond}
 use mathlib.Core.List.{List, [], _∷_}
 use Prim.Native.Nat.{ℕ}
 use lib.Dec.{ltb, leb}

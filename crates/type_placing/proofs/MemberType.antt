@@ -3,7 +3,7 @@
 use mathlib.Core.Path.{_≡_, refl, sym, ap, _∙_, subst}
 use mathlib.Core.Bool.{Bool, true}
 use mathlib.Core.List.{List, [], _∷_}
-use Prim.Native.Nat.{ℕ, _+_, _*_, _-_, _≤_}
+use Prim.Native.Nat.{ℕ, _+_, _*_, _-_, _≤_, _<_}
 use native.Mathlib.Nat.{add-zero}
 use native.Mathlib.Omega.{arith}
 use Rattle.words.specs.Splice.{splice}
@@ -13,9 +13,10 @@ use Rattle.writing.specs.Step.{pools, goDown, comeUp, addType}
 use Rattle.text_pool.specs.declared.Pooled.{Pooled}
 use Rattle.text_pool.specs.declared.Pooled.the-variants.{At, Absent}
 use Rattle.text_pool.specs.Pool.{entries, entryCount, pooledAt}
+use Rattle.placing.specs.Ran.{chunkLimit}
 use Rattle.placing.specs.Scratch.{memberTypesStart, recordsStart, outerPool, innerPool, defaultPool, typesFrom, poolsIn, Ready}
 use Rattle.placing.specs.InScratch.{Kept}
-use Rattle.placing.proofs.Runs.{ran-below, ran-like}
+use Rattle.placing.proofs.Runs.{ran-below, ran-like, ran-past}
 use Rattle.placing.proofs.ScratchPools.{outer-kept-before, inner-kept-before, defaults-kept-before, ready-kept}
 use Rattle.type_equality.specs.Trees.{treeAt, typeTree}
 use Rattle.type_equality.proofs.Trees.{tree-up}
@@ -24,6 +25,20 @@ use Rattle.type_placing.specs.TypePlaced.{sharedOffset, TypeWritten, Mem
 use Rattle.type_placing.specs.declared.Span.{Span}
 use Rattle.type_placing.proofs.Stacks.{write-kept, entry-pushed, keeps-same, keeps-then, keeps-entries}
 use Rattle.type_placing.proofs.Sharing.{looked, type-found, type-fresh-shared, looked-is}
+
+-- Past the limit of a chunk nothing is looked up or written.
+pub member-past : (sm5 : Bool) {chunk edits types : List ℕ} {levels k base n at sp next : ℕ} {s out : List ℕ} → Ready chunk edits s → chunkLimit < at → next ≡ treeAt types levels k .next
+    → MemberTypePlaced chunk edits types sm5 levels k base n at sp s s out out (record { offset = 0; at = at; next = next; n = n })
+member-past sm5 {chunk} {edits} {types} {levels} {k} {base} {n} {at} {sp} {next} {s} {out} ready past is-next = record {
+  ran = λ ts. ran-past chunk edits _ _ past (omega arith) refl;
+  next = is-next;
+  ready = ready;
+  keeps = keeps-same s (base + n) sp;
+  more = omega arith;
+  one = omega arith;
+  names = omega (arith, is-next, tree-up types levels k);
+  near = omega (arith, is-next, tree-up types levels k);
+}
 
 -- What is known of a member's type once it was looked up.
 pub record LookedUp (chunk edits types : List ℕ) (levels k base n at sp : ℕ) (s : List ℕ) (looked-up : Pooled) : Type 0 where

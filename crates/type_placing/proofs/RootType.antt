@@ -14,10 +14,10 @@ use Rattle.writing.specs.Step.{pools, addType}
 use Rattle.text_pool.specs.declared.Pooled.{Pooled}
 use Rattle.text_pool.specs.declared.Pooled.the-variants.{At, Absent}
 use Rattle.text_pool.specs.Pool.{entries, entryCount, pooledAt}
-use Rattle.placing.specs.Ran.{textOracle, Ran}
+use Rattle.placing.specs.Ran.{textOracle, chunkLimit, Ran}
 use Rattle.placing.specs.Scratch.{innerStart, defaultsStart, rootTypesStart, memberTypesStart, recordsStart, outerPool, innerPool, defaultPool, typesFrom, poolsIn, Ready}
 use Rattle.placing.specs.InScratch.{Kept}
-use Rattle.placing.proofs.Runs.{ran-like}
+use Rattle.placing.proofs.Runs.{ran-like, ran-past}
 use Rattle.placing.proofs.Regions.{region-agree, types-agree, types-kept-after}
 use Rattle.placing.proofs.ScratchPools.{outer-kept-before, inner-kept-before, defaults-kept-before, ready-kept}
 use Rattle.type_equality.specs.Trees.{treeAt, typeTree}
@@ -32,6 +32,25 @@ use Rattle.type_placing.proofs.Sharing.{looked, type-found, type-fresh-
 -- The types of all members lie from entry 0 on.
 pub room-none : {s : List ℕ} {k at n sp : ℕ} → Room s k 1 at n sp → Room s k 1 at (0 + n) sp
 room-none {s} {k} {at} {n} {sp} room = subst (λ (e : ℕ). Room s k 1 at e sp) (sym (zero-add n)) room
+
+-- Past the limit of a chunk nothing is looked up or written.
+pub root-past : (sm5 share : Bool) {chunk edits types : List ℕ} {levels k n roots at next : ℕ} {s out : List ℕ} → Ready chunk edits s → chunkLimit < at → next ≡ treeAt types levels k .next
+    → RootTypePlaced chunk edits types sm5 share levels k n roots at s s out out (record { offset = 0; at = at; next = next; n = n; roots = roots })
+root-past sm5 share {chunk} {edits} {types} {levels} {k} {n} {roots} {at} {next} {s} {out} ready past is-next = record {
+  ran = ran-past chunk edits _ _ past (omega arith) refl;
+  next = is-next;
+  ready = ready;
+  long = refl;
+  high = λ j h. refl;
+  outer-same = refl;
+  defaults-same = refl;
+  more = omega arith;
+  stacked = omega (arith, is-next, tree-up types levels k);
+  roots-more = omega arith;
+  one-root = omega arith;
+  names = omega (arith, is-next, tree-up types levels k);
+  near = omega (arith, is-next, tree-up types levels k);
+}
 
 -- What is known of a variable's type once it was looked up.
 pub record LookedUp (chunk edits types : List ℕ) (share : Bool) (levels k roots : ℕ) (s : List ℕ) (looked-up : Pooled) : Type 0 where

@@ -6,6 +6,9 @@ mod write;
 
 pub use root::place_root_type;
 
+// How long a chunk may be. Past it the chunk is refused, so types are no longer looked up or written.
+const CHUNK_LIMIT: usize = 65536;
+
 // A type that was placed: its offset, the cursor and the node after it, and how many types now lie where its members' (as a member's type: its own) are looked up.
 pub struct Span {
     pub offset: u32,

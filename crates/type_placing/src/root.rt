@@ -6,6 +6,7 @@ ghost use Rattle.placing.specs.Scratch.{recordsStart, Ready};
 ghost use Rattle.type_equality.specs.Trees.{treeAt};
 ghost use Rattle.type_placing.specs.Room.{Room, nodeLimit};
 ghost use Rattle.type_placing.specs.TypePlaced.{RootTypePlaced};
+use crate::CHUNK_LIMIT;
 use crate::RootSpan;
 use crate::find::find_shared;
 use crate::write::write_type;
@@ -40,6 +41,15 @@ pub fn place_root_type<'a>(
     requires { ⌜ roots < 2048 ⌝ }
     ensures { λ r. ⌜ RootTypePlaced (now (chunk .entry)) (now (edits .entry)) (now (types .entry)) sm5 share typeLevels k n roots at (now (s .entry)) (now (s .exit)) (now (out .entry)) (now (out .exit)) r ⌝ }
 {
+    if at > CHUNK_LIMIT {
+        return RootSpan {
+            offset: 0,
+            at: at,
+            next: type_equality::skip_type(types, k, TYPE_LEVELS),
+            n: n,
+            roots: roots,
+        };
+    }
     match find_shared(
         chunk,
         edits,

@@ -13,6 +13,7 @@ ghost use Rattle.type_equality.specs.Trees.{treeAt, membersAt};
 ghost use Rattle.type_placing.specs.Writing.{countWithin};
 ghost use Rattle.type_placing.specs.Room.{Room, nodeLimit};
 ghost use Rattle.type_placing.specs.TypePlaced.{TypeWritten, MemberTypePlaced, MembersPlaced};
+use crate::CHUNK_LIMIT;
 use crate::Passed;
 use crate::Span;
 use crate::find::find_shared;
@@ -187,6 +188,14 @@ fn place_member_type<'a>(
     requires { ⌜ treeAt (now types) levels k .next ≤ nodeLimit ⌝ }
     ensures { λ r. ⌜ MemberTypePlaced (now (chunk .entry)) (now (edits .entry)) (now (types .entry)) sm5 levels k base n at sp (now (s .entry)) (now (s .exit)) (now (out .entry)) (now (out .exit)) r ⌝ }
 {
+    if at > CHUNK_LIMIT {
+        return Span {
+            offset: 0,
+            at: at,
+            next: type_equality::skip_type(types, k, levels),
+            n: n,
+        };
+    }
     match find_shared(
         chunk,
         edits,

@@ -3,19 +3,24 @@ use mathlib.Core.Path.{_≡_, refl, ap, _∙_}
 use mathlib.Core.Bool.{Bool, true, false, cond}
 use mathlib.Core.List.{List}
 use mathlib.Core.Option.{Option, none, some}
-use Prim.Native.Nat.{ℕ, _-_, _<_, _≤_}
+use mathlib.Core.Logic.{_⊎_, inl, inr}
+use Prim.Native.Nat.{ℕ, _-_, _<_, _≤_, min}
 use native.Mathlib.Omega.{arith}
 use borrow.Author.Tests.{le-leb, lt-leb}
 use lib.Dec.{leb}
-use lib.ListN.{replicate}
+use lib.ListN.{length, replicate}
+use Rattle.words.specs.Splice.{Put}
 use Rattle.reflection.specs.declared.ResourceDef.{ResourceDef as Header}
-use Rattle.reflection.specs.Outcome.{Outcome, ok, refused, because}
+use Rattle.reflection.specs.Outcome.{ok, refused, because}
 use Rattle.reflection.specs.Reflection.{ResourceDef}
 use Rattle.reflection.specs.Contents.{Bytes, contents}
 use Rattle.readable.specs.Readable.{held, readable, isReadable, readableContents}
 use Rattle.readable.proofs.ReadableTables.{Readable}
-use Rattle.emit.specs.Written.{fitting}
+use Rattle.emit.specs.Written.{fitting, writtenOf, outputOf, finished, kept}
+use Rattle.emit.proofs.Fitting.{finished-answer, finished-output}
 use Rattle.writing.specs.Canonical.{canonical}
+use Rattle.placing.specs.Ran.{chunkLimit}
+use Rattle.table_placing.specs.Chunk.{TooLong}
 use Rattle.writing.specs.Outcome.{scratchSize, canonicalOr16, write}
 
 -- A scratch that kept its length is zeros, all of it, once it is cleared from its first word on.
@@ -53,3 +58,18 @@ module _ (scratch room : ℕ) where
     pub writable : (r : Readable chunk edits h bindings buffers variables types)
         → write scratch room (held chunk edits h bindings buffers variables types) ≡ fitting room (ok (canonical (contents chunk edits (r .def))))
     writable r = ap (write scratch room) (r .is-held) ∙ readable-written (contents chunk edits (r .def)) (r .is-readable) enough
+
+longer : (room n : ℕ) → chunkLimit < n → leb n (min room 65536) ≡ false
+longer room n h = lt-leb n (min room 65536) (omega arith)
+
+-- The end of writing: the canonical form was put, or it is longer than a chunk may be; then the answer is 17, whatever the output holds.
+module _ {bytes lent out : List ℕ} {at : ℕ} where
+  pub chunk-answer : Put lent 0 bytes out at ⊎ TooLong bytes lent out at → finished (length out) at ≡ writtenOf (fitting (length lent) (ok bytes))
+  unfolding finished fitting writtenOf
+  chunk-answer (inl put) = finished-answer put
+  chunk-answer (inr long) = rw (longer (length out) at (long .reached), longer (length lent) (length bytes) (long .defined))
+
+  pub chunk-output : Put lent 0 bytes out at ⊎ TooLong bytes lent out at → kept (finished (length out) at) out ≡ outputOf (fitting (length lent) (ok bytes)) lent
+  unfolding finished fitting kept outputOf
+  chunk-output (inl put) = finished-output put
+  chunk-output (inr long) = rw (longer (length out) at (long .reached), longer (length lent) (length bytes) (long .defined)) (ap (λ (n : ℕ). replicate n 0) (long .long))

@@ -1,10 +1,7 @@
 //! Times the port's reading and its canonical writing beside rdef.rs, on the same chunks in one run.
 
-use oracle::generate::fixed::plain;
-use oracle::generate::plan::{Binding, Buffer, Member, Plan, Type, Value, Variable};
-use oracle::generate::rng::Rng;
 use oracle::generate::samples;
-use oracle::generate::texts::identifier;
+use oracle::generate::timed::{chunk, NEAR_LIMIT, TYPICAL};
 use oracle::port::port;
 use oracle::rdef::{parse_only, parse_rdef};
 use oracle::tables::{Answer, LIMITS, WIDTHS};
@@ -147,73 +144,4 @@ fn time(mut call: impl FnMut()) -> f64 {
 fn median(mut times: Vec<f64>) -> f64 {
     times.sort_by(f64::total_cmp);
     times[times.len() / 2]
-}
-
-/// What a chunk for timing holds. Each buffer has as many variables as an array.
-struct Size {
-    bindings: usize,
-    buffers: usize,
-    arrays: usize,
-    array: usize,
-    /// One variable in so many is a struct, and so many members it has.
-    one_in: usize,
-    members: usize,
-}
-
-const TYPICAL: Size = Size { bindings: 60, buffers: 8, arrays: 8, array: 15, one_in: 6, members: 4 };
-
-/// Inside 65,536 bytes only since buffers share arrays of variables.
-const NEAR_LIMIT: Size = Size { bindings: 1_000, buffers: 50, arrays: 5, array: 40, one_in: 2, members: 2 };
-
-fn chunk(size: &Size, major: u32) -> Vec<u8> {
-    let mut rng = Rng::new(9, u64::from(major));
-    let mut plan = Plan::empty(major);
-    plan.creator = b"Microsoft (R) HLSL Shader Compiler 10.1".to_vec();
-    for index in 0..size.bindings {
-        let words = [2 + index as u32 % 3, 5, 4, 0xffff_ffff, index as u32, 1, 0xc, 0, 0];
-        plan.bindings.push(Binding { name: identifier(&mut rng, 6, 20), words });
-    }
-    for index in 0..12u16 {
-        let halves = [index % 4, [3, 3, 2, 19][usize::from(index % 4)], 1 + index % 4, 4, index % 3];
-        plan.types.push(Type { halves, ..Type::default() });
-    }
-    for _ in 0..8 {
-        let member = |rng: &mut Rng| Member { name: identifier(rng, 6, 20), of: rng.below(12), offset: 16 };
-        let members = (0..size.members).map(|_| member(&mut rng)).collect();
-        plan.types.push(Type {
-            halves: [5, 0, 1, 1, 0],
-            members,
-            name: Some(identifier(&mut rng, 6, 20)),
-            ..Type::default()
-        });
-    }
-    let mut number = 0;
-    for _ in 0..size.arrays {
-        let mut array = Vec::new();
-        for _ in 0..size.array {
-            let of = if number % size.one_in == 0 { 12 + rng.below(8) } else { rng.below(12) };
-            let value = if number % 7 == 1 { Value::Bytes((0..16).map(|_| rng.byte()).collect()) } else { Value::None };
-            array.push(Variable {
-                name: identifier(&mut rng, 6, 20),
-                offset: 16 * number as u32,
-                size: 16,
-                flags: 2,
-                of,
-                value,
-                slots: [0; 4],
-            });
-            number += 1;
-        }
-        plan.arrays.push(array);
-    }
-    for index in 0..size.buffers {
-        plan.buffers.push(Buffer {
-            name: identifier(&mut rng, 6, 20),
-            array: index % size.arrays,
-            count: size.array,
-            words: [16 * size.array as u32, 0, 0],
-            ..Buffer::default()
-        });
-    }
-    plain(&plan).bytes
 }

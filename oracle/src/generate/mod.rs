@@ -13,6 +13,7 @@ pub mod plan;
 pub mod rng;
 pub mod samples;
 pub mod texts;
+pub mod timed;
 
 use self::chains::End;
 use self::fixed::{blank, plain, put, Fixed};

@@ -1,9 +1,11 @@
 //! Holds entry points for spelling and listing to rdef.rs and to the model, to the last byte.
 
+use super::generate::{grid, long, samples, with_rooms, Generator};
 use super::model::Model;
 use super::port::Entries;
 use super::rust::Rust;
-use super::{Answer, Case, Query, Speller, KINDS, NUMBERS};
+use super::{stored, Answer, Case, Query, Speller, KINDS, NUMBERS};
+use crate::comparison::{ensure, Comparison, Tally};
 use crate::generate::rng::Rng;
 use crate::guarded::Guarded;
 
@@ -11,25 +13,55 @@ pub struct Checker {
     entries: Entries,
     /// How many answers of each kind there were with each of `NUMBERS`.
     pub counts: [[u64; 4]; 4],
-    pub compared: u64,
-    pub different: u64,
-    /// The first difference, in words.
-    pub first: Option<String>,
+    pub tally: Tally,
+}
+
+impl Comparison for Checker {
+    type Functions = Entries;
+    const CASES: &'static str = "queries";
+
+    fn new(entries: Entries) -> Checker {
+        Checker { entries, counts: [[0; 4]; 4], tally: Tally::default() }
+    }
+
+    fn tally(&self) -> &Tally {
+        &self.tally
+    }
+
+    fn report(&self) -> String {
+        counts_lines(&self.counts) + &self.tally.to_string()
+    }
+
+    fn compare_fixed(&mut self, rng: &mut Rng) {
+        for (index, case) in stored::cases().iter().enumerate() {
+            self.compare(&format!("stored case {index}"), case, rng);
+        }
+        for query in [grid::queries(), long::queries(), samples::queries()].concat() {
+            for case in with_rooms(&query) {
+                self.compare("fixed query", &case, rng);
+            }
+        }
+    }
+
+    /// So many of each kind.
+    fn compare_fresh(&mut self, count: u64, seed: u64, rng: &mut Rng) {
+        let generator = Generator::new(seed);
+        for (kind, name) in KINDS.iter().enumerate() {
+            for number in 0..count {
+                self.compare(&format!("{name} {number}"), &generator.case(kind, number), rng);
+            }
+        }
+    }
 }
 
 impl Checker {
-    pub fn new(entries: Entries) -> Checker {
-        Checker { entries, counts: [[0; 4]; 4], compared: 0, different: 0, first: None }
-    }
-
     /// Calls the entry point and counts the answer, and a difference if there is one.
     pub fn compare(&mut self, name: &str, case: &Case, rng: &mut Rng) {
         let expected = Rust.answer(&case.query, case.room);
-        self.compared += 1;
+        self.tally.compared += 1;
         self.counts[case.query.kind()][place(expected.number)] += 1;
         if let Err(what) = self.one(case, &expected, rng) {
-            self.different += 1;
-            self.first.get_or_insert_with(|| format!("{name}: {what}\n{case}\nby rdef.rs: {expected}"));
+            self.tally.differs(|| format!("{name}: {what}\n{case}\nby rdef.rs: {expected}"));
         }
     }
 
@@ -77,11 +109,6 @@ impl Checker {
         lent.holds("text", text, 0)?;
         numbers.holds("numbers", &expected.numbers, 0)
     }
-
-    /// A line for each kind with its counts, then how many were compared and how many differ.
-    pub fn report(&self) -> String {
-        counts_lines(&self.counts) + &format!("{} compared, {} different", self.compared, self.different)
-    }
 }
 
 /// A line for each kind: how many were answered, how many refused with each number.
@@ -100,12 +127,4 @@ pub fn counts_lines(counts: &[[u64; 4]; 4]) -> String {
 /// The place in `NUMBERS`.
 pub fn place(number: u32) -> usize {
     NUMBERS.iter().position(|&known| known == number).expect("0, 16, 17 or 18")
-}
-
-fn ensure(holds: bool, what: impl FnOnce() -> String) -> Result<(), String> {
-    if holds {
-        Ok(())
-    } else {
-        Err(what())
-    }
 }

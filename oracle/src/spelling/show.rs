@@ -1,11 +1,8 @@
 //! A case and an answer in words, for the first difference: numbers decimal, bytes in hex.
 
 use super::{Answer, Case, Query, KINDS};
+use crate::comparison::hex;
 use std::fmt::{Display, Formatter, Result};
-
-fn hex(bytes: &[u8]) -> String {
-    bytes.iter().map(|byte| format!("{byte:02x}")).collect()
-}
 
 impl Display for Case {
     fn fmt(&self, f: &mut Formatter<'_>) -> Result {

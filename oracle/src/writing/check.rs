@@ -1,38 +1,77 @@
 //! Holds a writer with lent scratch and output to rdef.rs and to the model of readable, to the last byte.
 
 use super::evenings::alike;
+use super::generate::{fixed, Generator};
 use super::port::{Lent, Writer};
-use super::{write, Case, NUMBERS};
+use super::{show, stored, write, Case, NUMBERS};
+use crate::comparison::{Comparison, Tally};
 use crate::generate::rng::Rng;
 use crate::guarded::Guarded;
+use crate::tables::TABLE_NAMES;
 
 pub struct Checker {
     writer: Writer,
     /// How many answers there were with each of `NUMBERS`.
     pub counts: [u64; 4],
-    pub compared: u64,
     /// Pairs of evenings, and how many of them were written.
     pub pairs: u64,
     pub written_pairs: u64,
-    pub different: u64,
-    /// The first difference, in words.
-    pub first: Option<String>,
+    pub tally: Tally,
+}
+
+impl Comparison for Checker {
+    type Functions = Writer;
+    const CASES: &'static str = "cases";
+
+    fn new(writer: Writer) -> Checker {
+        Checker { writer, counts: [0; 4], pairs: 0, written_pairs: 0, tally: Tally::default() }
+    }
+
+    fn tally(&self) -> &Tally {
+        &self.tally
+    }
+
+    fn report(&self) -> String {
+        let pairs = format!("{} pairs of evenings, {} of them written\n", self.pairs, self.written_pairs);
+        counts_lines(&self.counts) + &pairs + &self.tally.to_string()
+    }
+
+    fn compare_fixed(&mut self, rng: &mut Rng) {
+        for (index, case) in stored::cases().iter().enumerate() {
+            self.compare(&format!("stored case {index}"), case, rng);
+        }
+        for (name, held) in
+            [fixed::chunks(), fixed::boundary(), fixed::nearly_equal(), fixed::faulty(), fixed::limits()].concat()
+        {
+            for case in fixed::with_rooms(&held) {
+                self.compare(&name, &case, rng);
+            }
+        }
+    }
+
+    /// So many cases, and a tenth of that in pairs of evenings.
+    fn compare_fresh(&mut self, count: u64, seed: u64, rng: &mut Rng) {
+        let generator = Generator::new(seed);
+        for number in 0..count {
+            let (kind, case) = generator.case(number);
+            self.compare(&format!("case {number}, {kind:?}"), &case, rng);
+        }
+        for number in 0..count / 10 {
+            self.compare_pair(&format!("pair {number}"), generator.pair(number).each_ref(), rng);
+        }
+    }
 }
 
 impl Checker {
-    pub fn new(writer: Writer) -> Checker {
-        Checker { writer, counts: [0; 4], compared: 0, pairs: 0, written_pairs: 0, different: 0, first: None }
-    }
-
     /// Writes the case and counts the answer, and a difference if there is one. The answer is the writer's.
     pub fn compare(&mut self, name: &str, case: &Case, rng: &mut Rng) -> Option<Result<Vec<u8>, u32>> {
         let expected = write(case);
-        self.compared += 1;
+        self.tally.compared += 1;
         self.counts[place(expected.as_ref().err().copied().unwrap_or(0))] += 1;
         match self.one(case, &expected, rng) {
             Ok(given) => Some(given),
             Err(what) => {
-                self.differs(|| format!("{name}: {what}\n{case}\nby rdef.rs: {}", super::show::outcome(&expected)));
+                self.tally.differs(|| format!("{name}: {what}\n{case}\nby rdef.rs: {}", show::outcome(&expected)));
                 None
             }
         }
@@ -55,13 +94,8 @@ impl Checker {
             _ => Err("one evening is written or refused otherwise than the other".to_string()),
         };
         if let Err(what) = outcome {
-            self.differs(|| format!("{name}: {what}\none evening: {}\nthe other: {}", pair[0], pair[1]));
+            self.tally.differs(|| format!("{name}: {what}\none evening: {}\nthe other: {}", pair[0], pair[1]));
         }
-    }
-
-    fn differs(&mut self, what: impl FnOnce() -> String) {
-        self.different += 1;
-        self.first.get_or_insert_with(what);
     }
 
     fn one(&self, case: &Case, expected: &Result<Vec<u8>, u32>, rng: &mut Rng) -> Result<Result<Vec<u8>, u32>, String> {
@@ -86,7 +120,7 @@ impl Checker {
         chunk.holds("chunk", &case.held.chunk, 0)?;
         edits.holds("edits", &case.held.edits, 0)?;
         header.holds("header", &words.header, 0)?;
-        for (name, (table, words)) in TABLES.iter().zip(tables.iter().zip(words.tables())) {
+        for (name, (table, words)) in TABLE_NAMES.iter().zip(tables.iter().zip(words.tables())) {
             table.holds(name, words, 0)?;
         }
         let number = expected.as_ref().err().copied().unwrap_or(0);
@@ -100,15 +134,7 @@ impl Checker {
         out.holds("output", bytes, if given == 0 { garbage } else { 0 })?;
         Ok(if given == 0 { Ok(out.lent()[..length.lent()[0] as usize].to_vec()) } else { Err(given) })
     }
-
-    /// The counts, then how many were compared and how many differ.
-    pub fn report(&self) -> String {
-        let pairs = format!("{} pairs of evenings, {} of them written\n", self.pairs, self.written_pairs);
-        counts_lines(&self.counts) + &pairs + &format!("{} compared, {} different", self.compared, self.different)
-    }
 }
-
-const TABLES: [&str; 4] = ["bindings", "buffers", "variables", "types"];
 
 /// How many were written, how many refused with each number.
 pub fn counts_lines(counts: &[u64; 4]) -> String {

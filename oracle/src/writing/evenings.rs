@@ -2,6 +2,7 @@
 //! a test on what was written.
 
 use super::Held;
+use crate::comparison::ensure;
 use crate::generate::rng::Rng;
 use crate::model;
 use crate::tables::{Rooms, VARIABLE_WORDS};
@@ -69,12 +70,4 @@ pub fn alike(evenings: [&Held; 2], written: [&[u8]; 2]) -> Result<(), String> {
 
 fn defaults(variables: &[u32]) -> impl Iterator<Item = [u32; 3]> + '_ {
     variables.chunks_exact(VARIABLE_WORDS).map(|words| [words[6], words[7], words[8]])
-}
-
-fn ensure(holds: bool, what: impl FnOnce() -> String) -> Result<(), String> {
-    if holds {
-        Ok(())
-    } else {
-        Err(what())
-    }
 }

@@ -1,18 +1,16 @@
 //! A case and an answer in words, for the first difference: numbers decimal, bytes in hex.
 
 use super::Case;
+use crate::comparison::hex;
+use crate::tables::TABLE_NAMES;
 use std::fmt::{Display, Formatter, Result as Shown};
-
-fn hex(bytes: &[u8]) -> String {
-    bytes.iter().map(|byte| format!("{byte:02x}")).collect()
-}
 
 impl Display for Case {
     fn fmt(&self, f: &mut Formatter<'_>) -> Shown {
         let (held, words) = (&self.held, &self.held.words);
         writeln!(f, "scratch of {} words, output of {} bytes", self.scratch, self.room)?;
         writeln!(f, "header {:?}", words.header)?;
-        for (name, table) in ["bindings", "buffers", "variables", "types"].iter().zip(words.tables()) {
+        for (name, table) in TABLE_NAMES.iter().zip(words.tables()) {
             writeln!(f, "{name} {table:?}")?;
         }
         writeln!(f, "chunk of {} bytes: {}", held.chunk.len(), hex(&held.chunk))?;

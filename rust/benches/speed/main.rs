@@ -2,14 +2,14 @@
 //!
 //!     cargo bench
 
-mod chunks;
 mod clock;
 mod reading;
+mod tables;
 mod texts;
 mod worst;
 mod writing;
 
-use chunks::{chunk, growing, NEAR_LIMIT, TYPICAL};
+use oracle::generate::timed::{chunk, growing, NEAR_LIMIT, TYPICAL};
 
 fn main() {
     let mut inputs = Vec::new();

@@ -1,7 +1,7 @@
 //! The canonical form, written by rdef.rs (`write_payload` with no original bytes) and by the library; and the payload of what was not edited.
 
 use crate::clock::times;
-use crate::reading::{full, read};
+use crate::reading::{full, read, Tables};
 use nontrefalcu::layout::{LONGEST_OUTPUT, SCRATCH_WORDS, WIDTHS};
 use nontrefalcu::raw;
 use oracle::rdef::{parse_only, parse_rdef};
@@ -23,31 +23,36 @@ pub fn table(inputs: &[(String, Vec<u8>)], grown: &[(String, Vec<u8>)]) {
     println!();
 }
 
-/// What the library is lent for one chunk.
+/// What the library is lent for one reflection.
 pub struct Lent<'a> {
     pub chunk: &'a [u8],
+    pub edits: &'a [u8],
     pub header: [u32; 12],
-    pub tables: [Vec<u32>; 4],
+    pub tables: Tables,
     pub scratch: Vec<u32>,
     pub out: Vec<u8>,
 }
 
-impl Lent<'_> {
-    pub fn read(chunk: &[u8]) -> Lent<'_> {
+impl<'a> Lent<'a> {
+    pub fn new(chunk: &'a [u8], edits: &'a [u8], header: [u32; 12], tables: Tables) -> Lent<'a> {
+        Lent { chunk, edits, header, tables, scratch: vec![1; SCRATCH_WORDS], out: vec![1; LONGEST_OUTPUT] }
+    }
+
+    pub fn read(chunk: &'a [u8]) -> Lent<'a> {
         let (mut header, mut tables) = ([0; 12], full());
         assert_eq!(read(chunk, &mut header, &mut tables), 0);
         for (index, table) in tables.iter_mut().enumerate() {
             table.truncate(header[8 + index] as usize * WIDTHS[index]);
         }
-        Lent { chunk, header, tables, scratch: vec![1; SCRATCH_WORDS], out: vec![1; LONGEST_OUTPUT] }
+        Lent::new(chunk, &[], header, tables)
     }
 
     pub fn write(&mut self) -> (u32, u32) {
         let [bindings, buffers, variables, types] = &self.tables;
         let (header, scratch, out, mut length) = (&self.header, &mut self.scratch, &mut self.out, [0]);
-        let chunk = black_box(self.chunk);
+        let (chunk, edits) = (black_box(self.chunk), black_box(self.edits));
         let number =
-            raw::write_canonical(chunk, &[], header, bindings, buffers, variables, types, scratch, out, &mut length);
+            raw::write_canonical(chunk, edits, header, bindings, buffers, variables, types, scratch, out, &mut length);
         (number, length[0])
     }
 }

@@ -1,8 +1,7 @@
 -- `text::fits` meets its contract.
-use mathlib.Core.Path.{_≡_, ap, _∙_, sym}
-use mathlib.Core.Bool.{_&&_, cond}
+use mathlib.Core.Path.{ap, _∙_, sym}
+use mathlib.Core.Bool.{cond}
 use borrow.Author.Needs.{needs}
-use lib.Dec.{leb}
 use Rattle.text.specs.Neighbours.{fits, mayFollow, mayBegin}
 use Rattle.text.proofs.fits.Statement.{statement}
 use Rattle.text.proofs.fits.Tie as tie

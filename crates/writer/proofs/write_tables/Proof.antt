@@ -8,8 +8,7 @@ use Rattle.reflection.specs.Outcome.{Outcome, ok}
 use Rattle.readable.specs.Readable.{held}
 use Rattle.readable.proofs.ReadableTables.{readable-holds}
 use Rattle.emit.specs.Written.{fitting, writtenOf, outputOf}
-use Rattle.emit.proofs.Fitting.{finished-answer, finished-output}
-use Rattle.writer.proofs.Answers.{short-scratch, unreadable, writable}
+use Rattle.writer.proofs.Answers.{short-scratch, unreadable, writable, chunk-answer, chunk-output}
 use Rattle.writer.proofs.TablesSized.{texts-short, tables-sized, same-canonical}
 use borrow.Author.Needs.{needs}
 use Rattle.writer.proofs.write_tables.Statement.{statement}
@@ -54,8 +53,8 @@ returns-2 c =
     let finished = c .before .before .finish .ensures in
     let same = ap (λ (bytes : List ℕ). fitting (length (a .out .now)) (ok bytes)) (same-canonical holds) in
     let is = writable (length (a .scratch .now)) (length (a .out .now)) (a .chunk .now) (a .edits .now) (a .def) (a .bindings .now) (a .buffers .now) (a .variables .now) (a .types .now) (omega (arith, c .before .before .before .before .before .before .before .before .before .before .before .before .before .if1 .left)) holds in (
-      finished .0 ∙ finished-answer (ended .put) ∙ ap writtenOf (same ∙ sym is),
-      (finished .1 ∙ finished-output (ended .put) ∙ ap (λ (o : Outcome (List ℕ)). outputOf o (a .out .now)) (same ∙ sym is), ended .long),
+      finished .0 ∙ chunk-answer (ended .written) ∙ ap writtenOf (same ∙ sym is),
+      (finished .1 ∙ chunk-output (ended .written) ∙ ap (λ (o : Outcome (List ℕ)). outputOf o (a .out .now)) (same ∙ sym is), ended .long),
     )
 
 refuse-requires-2 : tie.Need-refuse-requires-2

@@ -1,6 +1,7 @@
 //! Reflections built anew from a chunk's: records doubled, moved and dropped, types copied, wrapped and
 //! changed in one place, names from few words, so that much is equal or nearly equal.
 
+use super::fields::variables;
 use super::lay::{lay, Style};
 use crate::generate::rng::Rng;
 use crate::generate::texts::{identifier, name};
@@ -102,7 +103,7 @@ fn twin(def: &mut ResourceDef<'_>, rng: &mut Rng) {
 }
 
 fn some_variable<'d, 'a>(def: &'d mut ResourceDef<'a>, rng: &mut Rng) -> Option<&'d mut CBufferVariable<'a>> {
-    let mut variables: Vec<_> = def.constant_buffers.iter_mut().flat_map(|buffer| &mut buffer.variables).collect();
+    let mut variables = variables(def);
     (!variables.is_empty()).then(|| variables.swap_remove(rng.below(variables.len())))
 }
 

@@ -1,6 +1,7 @@
 //! Where the names, defaults and numbers of a reflection stand in its words.
 
 use super::super::Held;
+use crate::rdef::{CBufferVariable, ResourceDef};
 use crate::tables::{TYPE_WORDS, WIDTHS};
 
 /// What a text is.
@@ -13,6 +14,16 @@ pub enum What {
     Default,
     Type,
     Member,
+}
+
+impl What {
+    pub const ALL: [What; 7] =
+        [What::Creator, What::Binding, What::Buffer, What::Variable, What::Default, What::Type, What::Member];
+}
+
+/// The variables of all buffers, of a reflection as rdef.rs has it.
+pub fn variables<'d, 'a>(def: &'d mut ResourceDef<'a>) -> Vec<&'d mut CBufferVariable<'a>> {
+    def.constant_buffers.iter_mut().flat_map(|buffer| &mut buffer.variables).collect()
 }
 
 /// The place of a text's three words: in one of the four tables, or in the header, which counts as the fifth.

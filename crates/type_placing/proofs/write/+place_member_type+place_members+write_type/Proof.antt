@@ -9,7 +9,7 @@ use Rattle.type_placing.proofs.write.+place_member_type+place_members+w
 use Rattle.type_placing.proofs.write.+place_member_type+place_members+write_type.{statement}
 use Rattle.type_placing.proofs.write.+place_member_type+place_members+write_type.Tie.{close}
 use Rattle.type_placing.proofs.write.+place_member_type+place_members+write_type.Proof.Measure.{μ-place-member-type, μ-place-members, μ-write-type, place-member-type-at, place-members-at, write-type-at, place-member-type-calls, place-members-calls, place-members-Inv-loop, place-members-μ-loop, write-type-calls}
-use Rattle.type_placing.proofs.write.+place_member_type+place_members+write_type.Proof.PlaceMemberType.{place-member-type-find-shared-requires, place-member-type-skip-type-requires, place-member-type-add-write-type, place-member-type-write-type-requires, place-member-type-cast-t26, place-member-type-add-put-words, place-member-type-mul-put-words, place-member-type-add-put-words-2, place-member-type-add-t25, place-member-type-returns, place-member-type-same-length-2, place-member-type-same-length-3, place-member-type-returns-2}
+use Rattle.type_placing.proofs.write.+place_member_type+place_members+write_type.Proof.PlaceMemberType.{place-member-type-skip-type-requires, place-member-type-returns, place-member-type-find-shared-requires, place-member-type-skip-type-requires-2, place-member-type-add-write-type, place-member-type-write-type-requires, place-member-type-cast-t28, place-member-type-add-put-words, place-member-type-mul-put-words, place-member-type-add-put-words-2, place-member-type-add-t27, place-member-type-returns-2, place-member-type-same-length-2, place-member-type-same-length-3, place-member-type-returns-3}
 use Rattle.type_placing.proofs.write.+place_member_type+place_members+write_type.Proof.PlaceMembers.{place-members-loop-holds, place-members-place-inner-name-requires, place-members-sub-place-member-type, place-members-place-member-type-requires, place-members-add-top, place-members-sub-left, place-members-loop-less, place-members-loop-again, place-members-same-length, place-members-same-length-2, place-members-returns}
 use Rattle.type_placing.proofs.write.+place_member_type+place_members+write_type.Proof.WriteType.{write-type-place-type-name-requires, write-type-add-place-members, write-type-place-members-requires, write-type-mul-put-type, write-type-sub-put-type, write-type-part-put-type-start, write-type-part-put-type-end, write-type-put-type-requires, write-type-same-length, write-type-same-length-2, write-type-returns}
 mod Measure
@@ -22,24 +22,26 @@ pub +place-member-type+place-members+write-type-spec : {M : Type 1} → statemen
     (λ t. place-member-type-lts.spec (place-member-type-calls t)
     (place-member-type-at t)
     place-member-type.Post
+    (place-member-type-skip-type-requires t)
+    (place-member-type-returns t)
     (place-member-type-find-shared-requires t)
     (λ c. search needs)
-    (place-member-type-skip-type-requires t)
+    (place-member-type-skip-type-requires-2 t)
     (λ c. search needs)
     (place-member-type-add-write-type t)
     (place-member-type-write-type-requires t)
-    (place-member-type-cast-t26 t)
+    (place-member-type-cast-t28 t)
     (place-member-type-add-put-words t)
     (place-member-type-mul-put-words t)
     (place-member-type-add-put-words-2 t)
     (λ c. search needs)
     (λ c κs. search needs)
-    (place-member-type-add-t25 t)
+    (place-member-type-add-t27 t)
     (λ c. search needs)
-    (place-member-type-returns t)
+    (place-member-type-returns-2 t)
     (place-member-type-same-length-2 t)
     (place-member-type-same-length-3 t)
-    (place-member-type-returns-2 t))
+    (place-member-type-returns-3 t))
     (λ t. place-members-lts.spec (place-members-calls t)
     (place-members-at t)
     place-members.Post

@@ -53,7 +53,7 @@ abbrev pub write-type-below : ℕ → In 4 write-type-kinds.ps
 write-type-below t = and 4 write-type-kinds.ps (falls 4 write-type-kinds.ps _<_ μ-write-type t) write-type.Pre
 
 abbrev pub place-member-type-calls : ℕ → place-member-type-lts.Claims
-place-member-type-calls t = (find-shared-reads.Asked, find-shared-reads.Learnt, skip-type-reads.Asked, skip-type-reads.Learnt, write-type-below t, write-type.Post, put-words-reads.Asked, put-words-reads.Learnt)
+place-member-type-calls t = (skip-type-reads.Asked, skip-type-reads.Learnt, find-shared-reads.Asked, find-shared-reads.Learnt, write-type-below t, write-type.Post, put-words-reads.Asked, put-words-reads.Learnt)
 
 abbrev pub place-members-calls : ℕ → place-members-lts.Claims
 place-members-calls t = (has-member-reads.Asked, has-member-reads.Learnt, type-at-reads.Asked, type-at-reads.Learnt, place-inner-name-reads.Asked, place-inner-name-reads.Learnt, place-member-type-below t, place-member-type.Post, put-words-reads.Asked, put-words-reads.Learnt)

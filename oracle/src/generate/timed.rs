@@ -1,9 +1,9 @@
 //! The chunks that are timed.
 
-use oracle::generate::fixed::plain;
-use oracle::generate::plan::{Binding, Buffer, Member, Plan, Type, Value, Variable};
-use oracle::generate::rng::Rng;
-use oracle::generate::texts::identifier;
+use super::fixed::plain;
+use super::plan::{Binding, Buffer, Member, Plan, Type, Value, Variable};
+use super::rng::Rng;
+use super::texts::identifier;
 
 /// What a chunk holds. Each buffer has as many variables as an array; where there are fewer arrays than buffers, buffers share them.
 pub struct Size {
@@ -86,26 +86,43 @@ pub fn chunk(size: &Size, major: u32) -> Vec<u8> {
     plain(&plan).bytes
 }
 
-/// A chunk of 65,536 bytes in which all 8,257 names are the same 60,000 bytes and more, made of this character: 64 buffers share 32 variables, each a
-/// struct of one member. No chunk within the limits has more bytes of names.
+/// The chunk with the most bytes of names that is known within the limits: all 8,257 names are the same 60,000 bytes and more, made of this character.
 pub fn longest_names(character: &str) -> Vec<u8> {
+    same_names(character, 32, 1)
+}
+
+/// The same with names of half that length, and 256 types of which two are equal up to their members' own types.
+pub fn alike_types(character: &str) -> Vec<u8> {
+    same_names(character, 256, 256)
+}
+
+/// A chunk of 65,536 bytes: 64 buffers share variables, 32 each, which are structs of one member, and every name is the same text, as long as there is
+/// room. Types differ in the columns of their members' types.
+fn same_names(character: &str, variables: u32, types: u32) -> Vec<u8> {
     let mut bytes = vec![0; 65_536];
-    let mut put = |at: usize, words: &[u32]| {
+    let mut put = |at: u32, words: &[u32]| {
         for (index, word) in words.iter().enumerate() {
-            bytes[at + 4 * index..][..4].copy_from_slice(&word.to_le_bytes());
+            bytes[at as usize + 4 * index..][..4].copy_from_slice(&word.to_le_bytes());
         }
     };
-    let (buffers, variables, member, leaf, root, names) = (60, 60 + 64 * 24, 2_876, 2_888, 2_924, 2_960);
-    put(0, &[64, buffers, 0, 60, 0x500, 0, names, 0x3131_4452, 60, 24, 32, 40, 36, 12, 0]);
+    let first_variable = 60 + 64 * 24;
+    let first_type = first_variable + 40 * variables;
+    let names = first_type + 84 * types;
+    put(0, &[64, 60, 0, 60, 0x500, 0, names, 0x3131_4452, 60, 24, 32, 40, 36, 12, 0]);
     for index in 0..64 {
-        put((buffers + 24 * index) as usize, &[names, 32, variables, 512, 0, 0]);
+        put(60 + 24 * index, &[names, 32, first_variable + 40 * (32 * index % variables), 512, 0, 0]);
     }
-    for index in 0..32 {
-        put((variables + 40 * index) as usize, &[names, 16 * index, 16, 2, root, 0, u32::MAX, 0, u32::MAX, 0]);
+    for index in 0..variables {
+        let root = first_type + 84 * (index % types) + 48;
+        put(first_variable + 40 * index, &[names, 16 * index, 16, 2, root, 0, u32::MAX, 0, u32::MAX, 0]);
     }
-    put(member as usize, &[names, leaf, 0]);
-    put(leaf as usize, &[1 | 3 << 16, 1 | 4 << 16, 0, 0, 0, 0, 0, 0, names]);
-    put(root as usize, &[5, 1 | 4 << 16, 1 << 16, member, 0, 0, 0, 0, names]);
+    for index in 0..types {
+        let member = first_type + 84 * index;
+        let (leaf, root) = (member + 12, member + 48);
+        put(member, &[names, leaf, 0]);
+        put(leaf, &[1 | 3 << 16, 1 | (4 + index) << 16, 0, 0, 0, 0, 0, 0, names]);
+        put(root, &[5, 1 | 4 << 16, 1 << 16, member, 0, 0, 0, 0, names]);
+    }
     let mut at = names as usize;
     while at + character.len() < bytes.len() {
         bytes[at..at + character.len()].copy_from_slice(character.as_bytes());
