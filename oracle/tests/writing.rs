@@ -8,7 +8,7 @@ use oracle::tables::Rooms;
 use oracle::writing::generate::{boundaries, edits, faults, fixed, large, Generator, Kind, KINDS};
 use oracle::writing::readable::{readable, Clause, CLAUSES};
 use oracle::writing::rust::{canonical, resource_def};
-use oracle::writing::{evenings, model, stored, traps, write, Case, Held, LONGEST, SCRATCH};
+use oracle::writing::{model, pairs, stored, traps, write, Case, Held, LONGEST, SCRATCH};
 
 fn held(chunk: &[u8]) -> Held {
     Held::read(chunk, reading::read(chunk, &Rooms::FULL).expect("it reads"))
@@ -151,22 +151,22 @@ fn the_limits_are_reached() {
 }
 
 #[test]
-fn evenings_are_alike_only_if_equal_pairs_are_kept() {
+fn pairs_are_alike_only_if_equal_pairs_are_kept() {
     let generator = Generator::new(16);
     for number in 0..5_000 {
         let [a, b] = generator.pair(number);
         if let (Ok(one), Ok(other)) = (write(&a), write(&b)) {
-            evenings::alike([&a.held, &b.held], [&one, &other]).expect("they are alike");
+            pairs::alike([&a.held, &b.held], [&one, &other]).expect("they are alike");
         }
     }
     let equal = held(&examples::floats_a_and_b(true));
     let unequal = held(&examples::floats_a_and_b(false));
-    assert!(evenings::alike([&equal, &unequal], [&canonical(&equal), &canonical(&unequal)]).is_err());
+    assert!(pairs::alike([&equal, &unequal], [&canonical(&equal), &canonical(&unequal)]).is_err());
     // A byte outside of the defaults.
     let bytes = canonical(&unequal);
     let mut other = bytes.clone();
     other[20] ^= 1;
-    assert!(evenings::alike([&unequal, &unequal], [&bytes, &other]).is_err());
+    assert!(pairs::alike([&unequal, &unequal], [&bytes, &other]).is_err());
 }
 
 #[test]

@@ -15,7 +15,7 @@ use Rattle.emit.specs.Written.{fitting}
 use Rattle.writing.specs.Canonical.{canonical}
 use Rattle.writing.specs.Outcome.{scratchSize, canonicalOr16, write}
 use Rattle.hidden_ending.specs.HiddenEnding.{Alike, Hidden, both-refused, both-written}
-use Rattle.hidden_ending.proofs.Evenings.{Common}
+use Rattle.hidden_ending.proofs.SameButDefaults.{Common}
 
 -- What is written, by the three tests: enough scratch, readable, room in the output.
 abbrev answer : Bool → Bool → Bool → Bytes → Outcome Bytes

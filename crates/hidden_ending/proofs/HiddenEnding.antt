@@ -1,5 +1,5 @@
 -- THE HIDDEN ENDING (specs/HiddenEnding.antt), proved. The layout asks two things of a default: how long it is, and which others equal it. Both evenings
--- answer alike, so theirs is one layout, filled in twice (Evenings.antt); a cell with a byte of a default lies in a default's place (Within.antt), and that
+-- answer alike, so theirs is one layout, filled in twice (SameButDefaults.antt); a cell with a byte of a default lies in a default's place (Within.antt), and that
 -- is where reading finds the default, with its own bytes (crate round_trip). What refusals hang on agrees too (Answers.antt).
 use mathlib.Core.Path.{ap, sym, _∙_, subst}
 use mathlib.Core.List.{[], map}
@@ -13,7 +13,7 @@ use Rattle.round_trip.specs.RoundTrip.{NumbersAreWords, Restored}
 use Rattle.round_trip.proofs.RoundTrip.{round-trip}
 use Rattle.hidden_ending.specs.HiddenEnding.{SameButDefaults, DefaultsAt, Alike, Hidden}
 use Rattle.hidden_ending.proofs.Readable.{defaults-map}
-use Rattle.hidden_ending.proofs.Evenings.{placesIn, Common, evenings-common}
+use Rattle.hidden_ending.proofs.SameButDefaults.{placesIn, Common, same-but-defaults-common}
 use Rattle.hidden_ending.proofs.Answers.{same-answers}
 
 -- Where reading finds one evening's defaults.
@@ -46,4 +46,4 @@ hidden-ending scratch room a b words same =
     alike a b common back-a back-b
   where
     common : Common a b
-    common = evenings-common a b same
+    common = same-but-defaults-common a b same

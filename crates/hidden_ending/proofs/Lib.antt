@@ -4,7 +4,7 @@ pub mod Plain
 pub mod Within
 pub mod Readable
 pub mod OneLayout
-pub mod Evenings
+pub mod SameButDefaults
 pub mod Answers
 pub mod HiddenEnding
 pub mod Instance

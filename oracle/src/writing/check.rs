@@ -1,7 +1,7 @@
 //! Holds a writer with lent scratch and output to rdef.rs and to the model of readable, to the last byte.
 
-use super::evenings::alike;
 use super::generate::{fixed, Generator};
+use super::pairs::alike;
 use super::port::{Lent, Writer};
 use super::{show, stored, write, Case, NUMBERS};
 use crate::comparison::{Comparison, Tally};

@@ -2,7 +2,7 @@
 
 use super::check::place;
 use super::generate::{fixed, with_room, Generator, Kind};
-use super::{evenings, readable, write, Case, Held, SCRATCH};
+use super::{pairs, readable, write, Case, Held, SCRATCH};
 use crate::generate::rng::Rng;
 use std::collections::HashSet;
 
@@ -76,7 +76,7 @@ pub fn cases() -> Vec<Case> {
         if readable::readable(&held).is_ok() && held.chunk.len() + held.edits.len() < 24_000 {
             let words: usize = held.words.tables().iter().map(|table| table.len()).sum();
             if words < 40_000 {
-                let other = evenings::other(&held, &mut rng);
+                let other = pairs::other(&held, &mut rng);
                 sample.add(roomy(held), usize::MAX);
                 if let (Some(other), true) = (other, words < 20_000) {
                     sample.add(roomy(other), usize::MAX);

@@ -10,7 +10,7 @@ pub mod large;
 pub mod lay;
 pub mod twins;
 
-use super::{evenings, readable, rust, Case, Held, LONGEST, SCRATCH};
+use super::{pairs, readable, rust, Case, Held, LONGEST, SCRATCH};
 use crate::generate::rng::Rng;
 use crate::generate::{Generator as Chunks, Kind as Chunk};
 use crate::model;
@@ -93,7 +93,7 @@ impl Generator {
             if readable::readable(&held).is_err() || !some_default && !rng.one_in(20) {
                 continue;
             }
-            if let Some(other) = evenings::other(&held, &mut rng) {
+            if let Some(other) = pairs::other(&held, &mut rng) {
                 let case = with_room(held, &mut rng);
                 let other = Case { held: other, ..case };
                 return [case, other];

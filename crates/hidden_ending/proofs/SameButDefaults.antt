@@ -74,8 +74,8 @@ module _ {N D : Type 0} (f : N → Bytes) (g g′ : D → Bytes) (lengths : (d :
     same-outside = λ p free. outside p (λ c. free (subst (Covered p) (sym places-first) c));
   }
 
-pub evenings-common : (a b : ResourceDef Bytes Bytes) → SameButDefaults a b → Common a b
-evenings-common a b same =
+pub same-but-defaults-common : (a b : ResourceDef Bytes Bytes) → SameButDefaults a b → Common a b
+same-but-defaults-common a b same =
     let r = numbered a in
     let b-back : mapDef (λ n. n) (defaultNumber b) r ≡ b = ap (mapDef (λ n. n) (defaultNumber b)) (same-numbered a b same) ∙ defaults-back b in
     subst₂ Common (defaults-back a) b-back (common (λ n. n) (defaultNumber a) (defaultNumber b) (same .lengths) (same .equal-pairs) r)

@@ -43,11 +43,11 @@ fn change(length: usize, rng: &mut Rng) -> Vec<(u8, u8)> {
 
 /// Whether two written evenings are alike: length, the places of the defaults as they are read out of the
 /// written bytes, and every byte outside of them; and at these places stand the evenings' own bytes.
-pub fn alike(evenings: [&Held; 2], written: [&[u8]; 2]) -> Result<(), String> {
+pub fn alike(pair: [&Held; 2], written: [&[u8]; 2]) -> Result<(), String> {
     let [a, b] = written;
     ensure(a.len() == b.len(), || format!("{} and {} bytes", a.len(), b.len()))?;
     let mut found = Vec::new();
-    for (held, bytes) in evenings.into_iter().zip(written) {
+    for (held, bytes) in pair.into_iter().zip(written) {
         let read =
             model::read(bytes, &Rooms::FULL).map_err(|number| format!("what is written is refused: {number}"))?;
         let places: Vec<[u32; 3]> = defaults(&read.variables).collect();
