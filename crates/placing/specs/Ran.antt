@@ -20,6 +20,7 @@ textOracle chunk edits = through (textBytes chunk edits) (textBytes chunk edits)
 unfoldable pub cellBytes : List ℕ → List ℕ → List (Cell Text Text) → List ℕ
 cellBytes chunk edits cells = map (fillThrough (textBytes chunk edits) (textBytes chunk edits)) cells
 
+-- The step ran as it is defined.
 pub record Exact (chunk edits : List ℕ) {A : Type 0} (step : Step Text Text A) (at : ℕ) (ps : Pools Text Text) (out out′ : List ℕ) (result : A) (to : ℕ) (ps′ : Pools Text Text) : Type 0 where
   pub answered : step at ps .result ≡ result
   pub put : Put out at (cellBytes chunk edits (step at ps .cells)) out′ to
@@ -36,5 +37,6 @@ pub record Over {A : Type 0} (step : Step Text Text A) (at : ℕ) (ps : Pools Te
   pub defined : chunkLimit < at + length (step at ps .cells)
   pub long : length out′ ≡ length out
 
+-- The step ran: as it is defined, or past the limit.
 pub record Ran (chunk edits : List ℕ) {A : Type 0} (step : Step Text Text A) (at : ℕ) (ps : Pools Text Text) (out out′ : List ℕ) (result : A) (to : ℕ) (ps′ : Pools Text Text) : Type 0 where
   pub known : Exact chunk edits step at ps out out′ result to ps′ ⊎ Over step at ps out out′ to

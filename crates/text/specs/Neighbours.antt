@@ -16,6 +16,7 @@ mayFollow p1 b = leb (lowestAfter p1) b && leb b (highestAfter p1)
 abbrev pub mayBegin : ℕ → Bool
 mayBegin b = ltb b 0x80 || (leb 0xc2 b && ltb b 0xf5)
 
+-- A byte fits after the three before it: it goes on with their sequence, or begins one where they leave none open.
 unfoldable pub fits : ℕ → ℕ → ℕ → ℕ → Bool
 fits p3 p2 p1 b = cond (tailDue p3 p2 p1) (mayFollow p1 b) (mayBegin b)
 
