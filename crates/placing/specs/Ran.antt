@@ -9,6 +9,7 @@ use lib.ListN.{length}
 use Rattle.words.specs.Splice.{Put}
 use Rattle.reflection.specs.declared.Text.{Text}
 use Rattle.reflection.specs.Texts.{textBytes}
+pub use Rattle.reflection.specs.Limits.{chunkLimit}
 use Rattle.writing.specs.Step.{Cell, Oracle, Pools, Step}
 use Rattle.writing.specs.Canonical.{bytesOracle, through, fillThrough}
 
@@ -25,10 +26,6 @@ pub record Exact (chunk edits : List ℕ) {A : Type 0} (step : Step Text Text A)
   pub answered : step at ps .result ≡ result
   pub put : Put out at (cellBytes chunk edits (step at ps .cells)) out′ to
   pub pools-left : step at ps .pools-after ≡ ps′
-
--- How long a chunk may be.
-abbrev pub chunkLimit : ℕ
-chunkLimit = 65536
 
 -- Past the limit the chunk is refused whatever follows: of a step it then counts only that the cursor is past the limit, in the code and in the definition, and
 -- that the output is as long as it was. So the code need not look anything up there.

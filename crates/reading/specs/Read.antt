@@ -13,21 +13,9 @@ use Rattle.reflection.specs.declared.Text.{Text}
 use Rattle.reflection.specs.Outcome.{Outcome, ok, refused}
 use Rattle.reflection.specs.Reflection.{TypeNumbers, TypeDesc, typeDesc, Members, noMember, member, Rd11, noRd11, rd11, ResourceBinding, CBufferVariable, CBufferDef, ResourceDef, isSm5, isWide}
 pub use Rattle.reflection.specs.Reflection.{majorOf}
-use Rattle.reflection.specs.Nodes.{typeLevels}
+pub use Rattle.reflection.specs.Strides.{bindingStride, variableStride, typeStride}
+use Rattle.reflection.specs.Limits.{typeLevels}
 use Rattle.reading.specs.Step.{Room, Step, _>>=_, return, refuse, check, textOr, takeBinding, takeBuffer, takeVariable, takeType}
-
--- Strides in bytes. Major 5 has longer variables and type descriptors; a binding of 40 bytes has space and id.
-abbrev pub bindingStride : Bool → ℕ
-bindingStride false = 32
-bindingStride true = 40
-
-abbrev pub variableStride : Bool → ℕ
-variableStride false = 24
-variableStride true = 40
-
-abbrev pub typeStride : Bool → ℕ
-typeStride false = 16
-typeStride true = 36
 
 -- A word that only the longer record has; 0 in the other.
 unfoldable pub wordIf : Bool → List ℕ → ℕ → ℕ

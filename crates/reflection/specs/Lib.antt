@@ -1,3 +1,6 @@
+pub mod Limits
+pub mod Strides
+pub mod Refusals
 pub mod Outcome
 pub mod Reflection
 pub mod Texts

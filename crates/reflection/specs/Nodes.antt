@@ -3,6 +3,7 @@ use mathlib.Core.List.{List, [], _∷_, _++_}
 use mathlib.Core.Option.{Option, none, some}
 use Prim.Native.Nat.{ℕ, zero, suc}
 use Rattle.reflection.specs.Reflection.{TypeNumbers, TypeDesc, typeDesc, Members, noMember, member, memberCount}
+pub use Rattle.reflection.specs.Limits.{typeLevels}
 
 -- A node: a type's numbers, how many members follow, its name, and the name and offset that it has as a member (of a root: none).
 pub record Node (N : Type 0) : Type 0 where
@@ -19,10 +20,6 @@ unfoldable mutual
   pub nodesOfMembers : {N : Type 0} → Members N → List (Node N)
   nodesOfMembers noMember = []
   nodesOfMembers (member n o t ms) = nodesOf n o t ++ nodesOfMembers ms
-
--- The root of a type stands at depth 0 and the deepest node at 64: 65 levels.
-abbrev pub typeLevels : ℕ
-typeLevels = 65
 
 -- The type has at most so many levels.
 unfoldable mutual

@@ -10,19 +10,7 @@ use Rattle.reflection.specs.declared.ResourceBinding.{ResourceBinding}
 use Rattle.reflection.specs.declared.CBufferDef.{CBufferDef}
 use Rattle.reflection.specs.declared.CBufferVariable.{CBufferVariable}
 use Rattle.reflection.specs.declared.TypeDesc.{TypeDesc}
-
--- The widths, in words.
-abbrev pub bindingWidth : ℕ
-bindingWidth = 12
-
-abbrev pub bufferWidth : ℕ
-bufferWidth = 7
-
-abbrev pub variableWidth : ℕ
-variableWidth = 13
-
-abbrev pub typeWidth : ℕ
-typeWidth = 17
+pub use Rattle.reflection.specs.Limits.{bindingWidth, bufferWidth, variableWidth, typeWidth}
 
 -- A binding: its name, then the nine other fields in the order of the Rust's struct.
 unfoldable pub bindingWords : ResourceBinding → List ℕ

@@ -11,17 +11,12 @@ use crate::CBufferVariable;
 use crate::ResourceBinding;
 use crate::Text;
 use crate::TypeDesc;
+use crate::limits::BINDING_WORDS;
+use crate::limits::BUFFER_WORDS;
+use crate::limits::TYPE_WORDS;
+use crate::limits::VARIABLE_WORDS;
 use codes::BindingFlags;
 use codes::VariableFlags;
-
-// The records' widths, in words.
-const BINDING_WORDS: usize = 12;
-
-const BUFFER_WORDS: usize = 7;
-
-const VARIABLE_WORDS: usize = 13;
-
-const TYPE_WORDS: usize = 17;
 
 // Writes `row` as record i of the table; where record i does not lie whole in the table, nothing is written.
 fn put_record(table: &mut [u32], width: usize, i: usize, row: &[u32])
@@ -119,11 +114,11 @@ pub fn put_type(table: &mut [u32], i: usize, t: TypeDesc)
 }
 
 // The words of record i, and zeros up to the width of the widest record; only zeros where record i does not lie whole in the table.
-fn record_words(table: &[u32], width: usize, i: usize) -> [u32; 17]
-    requires { ⌜ (0 < width) × (width ≤ 17) ⌝ }
+fn record_words(table: &[u32], width: usize, i: usize) -> [u32; TYPE_WORDS]
+    requires { ⌜ (0 < width) × (width ≤ typeWidth) ⌝ }
     ensures { λ r. ⌜ ((k : ℕ) → k < width → getD r k 0 ≡ recordWord width (now (table .entry)) i k) ⌝ }
 {
-    let mut row = [0u32; 17];
+    let mut row = [0u32; TYPE_WORDS];
     let held = table.len() / width;
     if i < held {
         let at = i * width;
