@@ -19,9 +19,9 @@ use Rattle.text_pool.specs.declared.Pooled.the-variants.{At, Absent}
 abbrev pub bucketCount : ℕ
 bucketCount = 1024
 
--- Where the entries begin, and how many words an entry has.
+-- Where the entries begin, after the count and the links, and how many words an entry has.
 abbrev pub entriesStart : ℕ
-entriesStart = 1025
+entriesStart = 1 + bucketCount
 
 abbrev pub entryWidth : ℕ
 entryWidth = 5
