@@ -5,14 +5,13 @@ ghost use Prim.Native.Nat.{_≤_};
 ghost use Rattle.text.specs.Same.{sameBytes};
 ghost use Rattle.reflection.specs.Decode.{nodeFrom};
 ghost use Rattle.writing.specs.Same.{numbersOf, sameType, sameMembers};
-ghost use Rattle.type_equality.specs.Trees.{nodeAt, treeAt, membersAt, typeTree};
+ghost use Rattle.type_equality.specs.Trees.{farthestNode, nodeAt, treeAt, membersAt, typeTree};
 ghost use Rattle.type_equality.specs.Same.{sameName};
 use crate::skip::has_member;
 use crate::skip::skip_type;
+use reflection::TYPE_WORDS;
 use reflection::Text;
 use reflection::TypeDesc;
-
-const TYPE_WORDS: usize = 17;
 
 // Whether one of the first five numbers of node a of one table is another than that of node b of another. A quick test: the words are read where they lie, the
 // number of columns, in which most types differ, first. Where it says no, the numbers may differ all the same.
@@ -97,7 +96,7 @@ pub fn same_type<'a>(
     b: usize,
     levels: usize,
 ) -> bool
-    requires { ⌜ (a ≤ 0x1000_0000_0000_0000) × (b ≤ 0x1000_0000_0000_0000) ⌝ }
+    requires { ⌜ (a ≤ farthestNode) × (b ≤ farthestNode) ⌝ }
     ensures { λ r. ⌜ r ≡ sameType (sameName (now (chunk .entry)) (now (edits .entry))) (typeTree (now (types .entry)) levels a) (typeTree (now (types .entry)) levels b) ⌝ }
 {
     if other_numbers(types, a, types, b) {
@@ -116,7 +115,7 @@ pub fn same_type_between<'a>(
     b: usize,
     levels: usize,
 ) -> bool
-    requires { ⌜ (a ≤ 0x1000_0000_0000_0000) × (b ≤ 0x1000_0000_0000_0000) ⌝ }
+    requires { ⌜ (a ≤ farthestNode) × (b ≤ farthestNode) ⌝ }
     ensures { λ r. ⌜ r ≡ sameType (sameName (now (chunk .entry)) (now (edits .entry))) (typeTree (now (types .entry)) levels a) (typeTree (now (others .entry)) levels b) ⌝ }
 {
     let x = reflection::type_at(types, a);
