@@ -14,6 +14,7 @@ use Rattle.words.specs.Splice.{Put}
 use Rattle.text.specs.Same.{sameBytes}
 use Rattle.reflection.specs.declared.Text.{Text}
 use Rattle.reflection.specs.Texts.{textBytes}
+use Rattle.reflection.specs.Limits.{chunkLimit}
 use Rattle.writing.specs.Step.{Pools, Step, _>>=_, append, remember, pad, paddingAt, find, once, cellsOf, defaultByte, addOuterName, addInnerName, addDefault}
 use Rattle.writing.specs.Layout.{nameCells, placeOuterName, placeInnerName, placeDefault}
 use Rattle.writing.specs.Canonical.{bytesOracle, through}
@@ -44,7 +45,7 @@ length-part-up s place n = by-test (inside (length s) place n) refl
     by-test true e = omega (arith, ap length (part-inside s place n e), length-take-up n (drop place s), length-drop-up place s)
     by-test false e = omega (arith, ap length (part-outside s place n e))
 
-pub text-short : {chunk edits : List ℕ} → Short chunk edits → (text : Text) → length (textBytes chunk edits text) ≤ 65536
+pub text-short : {chunk edits : List ℕ} → Short chunk edits → (text : Text) → length (textBytes chunk edits text) ≤ chunkLimit
 unfolding textBytes
 text-short {chunk} {edits} short text = by-source (eqb (text .source) 0) (eqb (text .source) 1)
   where
@@ -54,7 +55,7 @@ text-short {chunk} {edits} short text = by-source (eqb (text .source) 0) (eqb (t
       | false ↦ elim b [ true ↦ part edits (text .place) (text .length) | false ↦ [] ]
     ]
 
-    by-source : (a b : Bool) → length (bytes a b) ≤ 65536
+    by-source : (a b : Bool) → length (bytes a b) ≤ chunkLimit
     by-source true b = omega (arith, length-part-up chunk (text .place) (text .length), short .chunk-short)
     by-source false true = omega (arith, length-part-up edits (text .place) (text .length), short .edits-short)
     by-source false false = omega arith

@@ -10,11 +10,11 @@ use Rattle.reflection.specs.Reflection.{TypeDesc}
 use Rattle.writing.specs.Step.{pools}
 use Rattle.text_pool.specs.Pool.{Indexed, entries}
 use Rattle.placing.specs.Pooling.{withOuterNames, withInnerNames, withDefaults}
-use Rattle.placing.specs.Scratch.{outerPool, innerPool, defaultPool, innerStart, defaultsStart, rootTypesStart, memberTypesStart, scratchEnd, typesFrom, poolsIn, Ready}
+use Rattle.placing.specs.Scratch.{outerPool, innerPool, defaultPool, innerStart, defaultsStart, rootTypesStart, memberTypesStart, scratchSize, typesFrom, poolsIn, Ready}
 use Rattle.placing.specs.InScratch.{Kept}
 use Rattle.placing.proofs.Regions.{region-kept-before, region-kept-after, types-kept-before, types-kept-after}
 
-module _ {from to : ℕ} {s s′ : List ℕ} (kept : Kept from to s s′) (long : scratchEnd ≤ length s) where
+module _ {from to : ℕ} {s s′ : List ℕ} (kept : Kept from to s s′) (long : scratchSize ≤ length s) where
   -- each pool of texts, where what changed lies before it or after it
   pub outer-kept-before : innerStart ≤ from → outerPool s′ ≡ outerPool s
   unfolding outerPool
@@ -36,7 +36,7 @@ module _ {from to : ℕ} {s s′ : List ℕ} (kept : Kept from to s s′) (long 
   unfolding defaultPool
   defaults-kept-before h = region-kept-before kept defaultsStart rootTypesStart h (omega arith)
 
-  pub length-kept : scratchEnd ≤ length s′
+  pub length-kept : scratchSize ≤ length s′
   length-kept = omega (arith, kept .long)
 
 -- the parts of the pools in the scratch, put together

@@ -1,25 +1,29 @@
 -- What placing a name or a default does to the scratch: the pool that it is looked up in changes, and no word outside that pool's region.
 use mathlib.Core.Path.{_≡_}
 use mathlib.Core.List.{List}
-use Prim.Native.Nat.{ℕ, _+_, _≤_, _<_}
+use Prim.Native.Nat.{ℕ, _+_, _-_, _/_, _≤_, _<_}
 use lib.ListN.{length, getD}
 use Rattle.reflection.specs.declared.Text.{Text}
 use Rattle.reflection.specs.Reflection.{TypeDesc}
 use Rattle.writing.specs.Step.{Step}
-use Rattle.text_pool.specs.Pool.{entryCount}
+use Rattle.text_pool.specs.Pool.{entriesStart, entryWidth, entryCount}
 use Rattle.placing.specs.Ran.{Ran}
-use Rattle.placing.specs.Scratch.{Ready, poolsIn}
+use Rattle.placing.specs.Pooling.{placedLimit}
+use Rattle.placing.specs.Scratch.{outerSize, innerSize, defaultsSize, Ready, poolsIn}
 use Rattle.placing.specs.declared.Spot.{Spot}
 
--- How many entries each pool of texts has room for.
+-- How many entries a pool of so many words has room for: 1,433, 8,396 and 2,252 (docs/ROOM.md).
+abbrev pub poolRoom : ℕ → ℕ
+poolRoom size = (size - entriesStart) / entryWidth
+
 abbrev pub outerRoom : ℕ
-outerRoom = 1433
+outerRoom = poolRoom outerSize
 
 abbrev pub innerRoom : ℕ
-innerRoom = 8396
+innerRoom = poolRoom innerSize
 
 abbrev pub defaultRoom : ℕ
-defaultRoom = 2252
+defaultRoom = poolRoom defaultsSize
 
 -- The words outside a region are what they were, and there are as many.
 pub record Kept (from to : ℕ) (s s′ : List ℕ) : Type 0 where
@@ -36,4 +40,4 @@ pub record TextPlaced (chunk edits : List ℕ) (step : Step Text Text ℕ) (at :
   pub count-low : entryCount (pool s) ≤ entryCount (pool s′)
   pub count-high : entryCount (pool s′) ≤ entryCount (pool s) + 1
   pub near-low : at ≤ r .at
-  pub near-high : r .at ≤ at + 65540
+  pub near-high : r .at ≤ at + placedLimit

@@ -3,6 +3,7 @@ use mathlib.Core.Path.{_≡_}
 use mathlib.Core.List.{List}
 use Prim.Native.Nat.{ℕ, _+_, _*_, _≤_}
 use lib.ListN.{length}
+use Rattle.reflection.specs.Limits.{chunkLimit}
 use Rattle.reflection.specs.declared.Text.{Text}
 use Rattle.writing.specs.Step.{Pools, pools}
 use Rattle.writing.specs.Layout.{placeOuterName, placeInnerName, placeDefault}
@@ -12,12 +13,16 @@ use Rattle.placing.specs.declared.Spot.{Spot}
 
 -- The chunk and the text of edits are no longer than a chunk may be.
 pub record Short (chunk edits : List ℕ) : Type 0 where
-  pub chunk-short : length chunk ≤ 65536
-  pub edits-short : length edits ≤ 65536
+  pub chunk-short : length chunk ≤ chunkLimit
+  pub edits-short : length edits ≤ chunkLimit
 
 -- How far the cursor may be where something is placed: its offset, after padding too, is then a word.
 abbrev pub farthestOffset : ℕ
 farthestOffset = 4000000000
+
+-- How far placing a text moves the cursor at most: padding and a default, or a name and its NUL.
+abbrev pub placedLimit : ℕ
+placedLimit = chunkLimit + 4
 
 -- A pool in order, with room for one entry more.
 pub record Open (chunk edits pool : List ℕ) : Type 0 where
@@ -50,7 +55,7 @@ pub record NamePlaced (chunk edits : List ℕ) (name : Text) (at : ℕ) (pool po
       → Ran chunk edits (placeInnerName (textOracle chunk edits) name) at ps out out′ (r .offset) (r .at) (withInnerNames (entries pool′) ps)
   pub pool-grown : Grown chunk edits pool pool′
   pub near-low : at ≤ r .at
-  pub near-high : r .at ≤ at + 65537
+  pub near-high : r .at ≤ at + (chunkLimit + 1)
 
 -- A default was placed.
 pub record DefaultPlaced (chunk edits : List ℕ) (default : Text) (at : ℕ) (pool pool′ out out′ : List ℕ) (r : Spot) : Type 0 where
@@ -58,4 +63,4 @@ pub record DefaultPlaced (chunk edits : List ℕ) (default : Text) (at : ℕ) (p
       → Ran chunk edits (placeDefault (textOracle chunk edits) default) at ps out out′ (r .offset) (r .at) (withDefaults (entries pool′) ps)
   pub pool-grown : Grown chunk edits pool pool′
   pub near-low : at ≤ r .at
-  pub near-high : r .at ≤ at + 65540
+  pub near-high : r .at ≤ at + placedLimit

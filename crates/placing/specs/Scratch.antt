@@ -1,42 +1,56 @@
 -- The writer's scratch, region by region, and the pools that stand in it (docs/ROOM.md). Three pools of texts come first (crate text_pool): names of bindings
 -- and buffers, all other names, defaults. Then the types of variables and the types of members that may be shared, an entry of two words each: the type's
 -- node, its offset. Then the words of members' records while a type is written, the offsets of variables, of buffers and of bindings' names.
-use mathlib.Core.Path.{_≡_}
+use mathlib.Core.Path.{_≡_, refl}
 use mathlib.Core.List.{List, [], _∷_}
 use Prim.Native.Nat.{ℕ, zero, suc, _+_, _*_, _-_, _≤_}
 use lib.ListN.{length, getD, take, drop}
+use Rattle.reflection.specs.Limits.{bindingRoom, bufferRoom, variableRoom, typeRoom}
 use Rattle.reflection.specs.declared.Text.{Text}
 use Rattle.reflection.specs.Reflection.{TypeDesc}
 use Rattle.writing.specs.Step.{Pools, pools}
+pub use Rattle.writing.specs.Outcome.{scratchSize}
 use Rattle.text_pool.specs.Pool.{Indexed, entries}
 
--- Where each region begins; the first begins at 0.
+-- The words of each pool of texts.
+abbrev pub outerSize : ℕ
+outerSize = 8192
+
+abbrev pub innerSize : ℕ
+innerSize = 43008
+
+abbrev pub defaultsSize : ℕ
+defaultsSize = 12288
+
+-- Where each region begins: the first at 0, any other where the one before it ends. There is room for a type's entry for each variable and for each node, for a
+-- member's record for each node, and for three offsets of a variable, two of a buffer and one of a binding.
 abbrev pub innerStart : ℕ
-innerStart = 8192
+innerStart = outerSize
 
 abbrev pub defaultsStart : ℕ
-defaultsStart = 51200
+defaultsStart = innerStart + innerSize
 
 abbrev pub rootTypesStart : ℕ
-rootTypesStart = 63488
+rootTypesStart = defaultsStart + defaultsSize
 
 abbrev pub memberTypesStart : ℕ
-memberTypesStart = 67584
+memberTypesStart = rootTypesStart + variableRoom * 2
 
 abbrev pub recordsStart : ℕ
-recordsStart = 75776
+recordsStart = memberTypesStart + typeRoom * 2
 
 abbrev pub variablesStart : ℕ
-variablesStart = 88064
+variablesStart = recordsStart + typeRoom * 3
 
 abbrev pub buffersStart : ℕ
-buffersStart = 94208
+buffersStart = variablesStart + variableRoom * 3
 
 abbrev pub bindingsStart : ℕ
-bindingsStart = 94336
+bindingsStart = buffersStart + bufferRoom * 2
 
-abbrev pub scratchEnd : ℕ
-scratchEnd = 95360
+-- The last region ends where the scratch does.
+pub scratch-filled : bindingsStart + bindingRoom ≡ scratchSize
+scratch-filled = refl
 
 -- The words from one place up to another.
 unfoldable pub region : ℕ → ℕ → List ℕ → List ℕ
@@ -63,7 +77,7 @@ poolsIn s types tree base n =
 
 -- The scratch is long enough, and its three pools of texts are in order.
 pub record Ready (chunk edits s : List ℕ) : Type 0 where
-  pub long : scratchEnd ≤ length s
+  pub long : scratchSize ≤ length s
   pub outer : Indexed chunk edits (outerPool s)
   pub inner : Indexed chunk edits (innerPool s)
   pub defaults : Indexed chunk edits (defaultPool s)

@@ -14,11 +14,21 @@ ghost use Rattle.placing.specs.Bytes.{joinedBytes};
 ghost use Rattle.placing.specs.Pooling.{Short, Open, farthestOffset, NamePlaced, DefaultPlaced};
 ghost use Rattle.placing.specs.Scratch.{innerStart, defaultsStart, rootTypesStart, outerPool, innerPool, defaultPool, Ready};
 ghost use Rattle.placing.specs.InScratch.{outerRoom, innerRoom, defaultRoom, TextPlaced};
+use reflection::CHUNK_LIMIT;
 use reflection::Text;
 use text_pool::Pooled;
 
-// How long a chunk may be. Past it the chunk is refused, so names and defaults are no longer looked up.
-const CHUNK_LIMIT: usize = 65536;
+mod scratch;
+
+pub use scratch::BINDINGS_START;
+pub use scratch::BUFFERS_START;
+pub use scratch::DEFAULTS_START;
+pub use scratch::INNER_START;
+pub use scratch::MEMBER_TYPES_START;
+pub use scratch::RECORDS_START;
+pub use scratch::ROOT_TYPES_START;
+pub use scratch::SCRATCH_WORDS;
+pub use scratch::VARIABLES_START;
 
 // Where something was placed, and the cursor after it.
 pub struct Spot {
@@ -173,7 +183,7 @@ pub fn place_default<'a>(
     }
 }
 
-// Places a name of a binding or a buffer, with the pools in the scratch.
+// Places a name of a binding or a buffer, with the pools in the scratch. Past a chunk's limit the chunk is refused, so nothing is looked up any more.
 pub fn place_outer_name<'a>(
     chunk: &'a [u8],
     edits: &'a [u8],
@@ -191,7 +201,7 @@ pub fn place_outer_name<'a>(
     if at > CHUNK_LIMIT {
         return Spot { offset: 0, at: at };
     }
-    place_name(chunk, edits, name, &mut s[0..8192], out, at)
+    place_name(chunk, edits, name, &mut s[0..INNER_START], out, at)
 }
 
 // Places any other name, with the pools in the scratch.
@@ -212,7 +222,14 @@ pub fn place_inner_name<'a>(
     if at > CHUNK_LIMIT {
         return Spot { offset: 0, at: at };
     }
-    place_name(chunk, edits, name, &mut s[8192..51200], out, at)
+    place_name(
+        chunk,
+        edits,
+        name,
+        &mut s[INNER_START..DEFAULTS_START],
+        out,
+        at,
+    )
 }
 
 // Places a default, with the pools in the scratch.
@@ -233,5 +250,12 @@ pub fn place_scratch_default<'a>(
     if at > CHUNK_LIMIT {
         return Spot { offset: 0, at: at };
     }
-    place_default(chunk, edits, default, &mut s[51200..63488], out, at)
+    place_default(
+        chunk,
+        edits,
+        default,
+        &mut s[DEFAULTS_START..ROOT_TYPES_START],
+        out,
+        at,
+    )
 }
