@@ -9,6 +9,7 @@ use native.Mathlib.Omega.{arith}
 use Rattle.words.specs.Splice.{splice}
 use Rattle.reflection.specs.declared.Text.{Text}
 use Rattle.reflection.specs.Reflection.{TypeDesc}
+use Rattle.reflection.specs.Limits.{typeRoom}
 use Rattle.writing.specs.Step.{pools, goDown, comeUp, addType}
 use Rattle.text_pool.specs.declared.Pooled.{Pooled}
 use Rattle.text_pool.specs.declared.Pooled.the-variants.{At, Absent}
@@ -20,7 +21,7 @@ use Rattle.placing.proofs.Runs.{ran-below, ran-like, ran-past}
 use Rattle.placing.proofs.ScratchPools.{outer-kept-before, inner-kept-before, defaults-kept-before, ready-kept}
 use Rattle.type_equality.specs.Trees.{treeAt, typeTree}
 use Rattle.type_equality.proofs.Trees.{tree-up}
-use Rattle.type_placing.specs.Room.{Room, Keeps, nodeLimit}
+use Rattle.type_placing.specs.Room.{Room, Keeps}
 use Rattle.type_placing.specs.TypePlaced.{sharedOffset, TypeWritten, MemberTypePlaced}
 use Rattle.type_placing.specs.declared.Span.{Span}
 use Rattle.type_placing.proofs.Stacks.{write-kept, entry-pushed, keeps-same, keeps-then, keeps-entries}
@@ -44,7 +45,7 @@ member-past sm5 {chunk} {edits} {types} {levels} {k} {base} {n} {at} {sp} {next}
 pub record LookedUp (chunk edits types : List ℕ) (levels k base n at sp : ℕ) (s : List ℕ) (looked-up : Pooled) : Type 0 where
   pub ready : Ready chunk edits s
   pub room : Room s k 1 at (base + n) sp
-  pub within : treeAt types levels k .next ≤ nodeLimit
+  pub within : treeAt types levels k .next ≤ typeRoom
   pub look : pooledAt looked-up ≡ sharedOffset true chunk edits types levels k s memberTypesStart base n
 
 module _ {chunk edits types : List ℕ} {levels k base n at sp : ℕ} {s : List ℕ} {looked-up : Pooled} (known : LookedUp chunk edits types levels k base n at sp s looked-up) where

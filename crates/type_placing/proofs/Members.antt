@@ -11,6 +11,7 @@ use Rattle.reflection.specs.declared.TypeDesc.{TypeDesc as TypeRecord}
 use Rattle.reflection.specs.Reflection.{TypeDesc, Members, noMember, member, memberCount}
 use Rattle.reflection.specs.Records.{typeAt}
 use Rattle.reflection.specs.Decode.{nodeFrom}
+use Rattle.reflection.specs.Limits.{typeRoom}
 use Rattle.writing.specs.Step.{Pools}
 use Rattle.writing.specs.Layout.{placeInnerName, placeMembers}
 use Rattle.text_pool.specs.Pool.{entryCount}
@@ -23,7 +24,7 @@ use Rattle.placing.proofs.Regions.{region-agree}
 use Rattle.placing.proofs.ScratchPools.{inner-kept-before, ready-kept, pools-kept-before}
 use Rattle.type_equality.specs.Trees.{Walked, nodeAt, hasMember, membersAt, treeAt, typeTree}
 use Rattle.type_equality.proofs.Trees.{member-left, members-none, members-more, members-past, tree-up}
-use Rattle.type_placing.specs.Room.{Room, Keeps, nodeLimit}
+use Rattle.type_placing.specs.Room.{Room, Keeps}
 use Rattle.type_placing.specs.TypePlaced.{MemberTypePlaced, MembersPlaced}
 use Rattle.type_placing.specs.declared.Span.{Span}
 use Rattle.type_placing.proofs.Stacks.{write-kept, words-pushed, region-none, keeps-same, keeps-then, keeps-names, keeps-records}
@@ -94,7 +95,7 @@ module _ {chunk edits types : List ℕ} {sm5 : Bool} {levels count k base n at s
         nothing = members-none types (treeAt types (levels - 1)) left next none
 
     -- A member is left; its type lies within the limit.
-    module _ (here : hasMember types left next ≡ true) (room : Room s₀ k 0 at (base + n) sp) (within : membersAt (treeAt types (levels - 1)) types count k .next ≤ nodeLimit) where
+    module _ (here : hasMember types left next ≡ true) (room : Room s₀ k 0 at (base + n) sp) (within : membersAt (treeAt types (levels - 1)) types count k .next ≤ typeRoom) where
       this-member : membersAt (treeAt types (levels - 1)) types left next
           ≡ record {
             it = member (nodeAt types next .member-name) (nodeAt types next .member-offset) (treeAt types (levels - 1) next .it) (membersAt (treeAt types (levels - 1)) types (left - 1) (treeAt types (levels - 1) next .next) .it);
@@ -109,7 +110,7 @@ module _ {chunk edits types : List ℕ} {sm5 : Bool} {levels count k base n at s
           pos zero h = absurd (h refl)
           pos (suc l) h = omega arith
 
-      pub type-within : treeAt types (levels - 1) next .next ≤ nodeLimit
+      pub type-within : treeAt types (levels - 1) next .next ≤ typeRoom
       type-within =
           omega (arith, within, going .same-next, ap (λ (w : Walked (Members Text)). w .next) this-member, members-past types (levels - 1) (left - 1) (treeAt types (levels - 1) next .next))
 
@@ -145,7 +146,7 @@ module _ {chunk edits types : List ℕ} {sm5 : Bool} {levels count k base n at s
           top-in : top + 3 ≤ variablesStart
           top-in = omega (arith, room-here .records-high, type-within, tree-up types (levels - 1) next)
 
-          entries-in : base + placed .n ≤ nodeLimit
+          entries-in : base + placed .n ≤ typeRoom
           entries-in = omega (arith, room-here .stacked, typed .one, type-within, tree-up types (levels - 1) next)
 
           pushed-kept : Kept top (top + 3) s₂ s₃

@@ -10,6 +10,7 @@ use lib.ListN.{getD}
 use Rattle.words.specs.Splice.{splice}
 use Rattle.reflection.specs.declared.Text.{Text}
 use Rattle.reflection.specs.Reflection.{TypeDesc}
+use Rattle.reflection.specs.Limits.{variableRoom}
 use Rattle.writing.specs.Step.{pools, addType}
 use Rattle.text_pool.specs.declared.Pooled.{Pooled}
 use Rattle.text_pool.specs.declared.Pooled.the-variants.{At, Absent}
@@ -55,7 +56,7 @@ root-past sm5 share {chunk} {edits} {types} {levels} {k} {n} {roots} {at} {next}
 -- What is known of a variable's type once it was looked up.
 pub record LookedUp (chunk edits types : List ℕ) (share : Bool) (levels k roots : ℕ) (s : List ℕ) (looked-up : Pooled) : Type 0 where
   pub ready : Ready chunk edits s
-  pub few-roots : roots < 2048
+  pub few-roots : roots < variableRoom
   pub look : pooledAt looked-up ≡ sharedOffset share chunk edits types levels k s rootTypesStart 0 roots
 
 module _ {chunk edits types : List ℕ} {share : Bool} {levels k roots : ℕ} {s : List ℕ} {looked-up : Pooled} (known : LookedUp chunk edits types share levels k roots s looked-up) where

@@ -11,6 +11,7 @@ use Rattle.words.specs.Splice.{splice, length-splice}
 use Rattle.words.proofs.Splice.{splice-keeps-before, splice-keeps-after, take-splice, splice-puts}
 use Rattle.reflection.specs.declared.Text.{Text}
 use Rattle.reflection.specs.Reflection.{TypeDesc}
+use Rattle.reflection.specs.Limits.{typeRoom}
 use Rattle.placing.specs.Scratch.{innerStart, defaultsStart, memberTypesStart, recordsStart, variablesStart, region, typesFrom}
 use Rattle.placing.specs.InScratch.{Kept}
 use Rattle.placing.proofs.Regions.{types-agree}
@@ -93,7 +94,7 @@ keeps-names entries sp p = record {
 }
 
 -- Words that lie on the records' stack above sp.
-pub keeps-records : {s s′ : List ℕ} (entries sp : ℕ) {from to : ℕ} → Kept from to s s′ → entries ≤ 4096 → recordsStart ≤ from → sp ≤ from → to ≤ variablesStart → Keeps s s′ entries sp
+pub keeps-records : {s s′ : List ℕ} (entries sp : ℕ) {from to : ℕ} → Kept from to s s′ → entries ≤ typeRoom → recordsStart ≤ from → sp ≤ from → to ≤ variablesStart → Keeps s s′ entries sp
 keeps-records entries sp p few low above below = record {
   long = p .long;
   outer = λ j h. p .before j (omega arith);

@@ -12,11 +12,13 @@ use Rattle.reflection.specs.Reflection.{TypeDesc, typeDesc, Members, memberCoun
 use Rattle.reflection.specs.Texts.{textBytes}
 use Rattle.reflection.specs.Records.{typeAt}
 use Rattle.reflection.specs.Decode.{nodeFrom}
+use Rattle.reflection.specs.Limits.{typeRoom}
 use Rattle.writing.specs.Step.{Step, unlessEmpty}
 use Rattle.writing.specs.Canonical.{bytesOracle, through}
 use Rattle.writing.specs.Layout.{writeType, placeInnerName}
 use Rattle.placing.specs.Ran.{textOracle, Ran}
 use Rattle.placing.specs.Scratch.{innerStart, defaultsStart, recordsStart, region, innerPool, poolsIn, Ready}
+use Rattle.placing.specs.Pooling.{farthestOffset}
 use Rattle.placing.specs.InScratch.{TextPlaced}
 use Rattle.placing.specs.declared.Spot.{Spot}
 use Rattle.placing.proofs.Runs.{ran-bind, ran-empty, ran-unless-empty}
@@ -24,7 +26,7 @@ use Rattle.placing.proofs.Regions.{length-region, kept-same}
 use Rattle.type_equality.specs.Trees.{Walked, nodeAt, membersAt, treeAt, typeTree}
 use Rattle.type_equality.proofs.Trees.{tree-up}
 use Rattle.type_placing.specs.Writing.{writeTree, appendRecords, closeType, countWithin}
-use Rattle.type_placing.specs.Room.{Room, nodeLimit}
+use Rattle.type_placing.specs.Room.{Room}
 use Rattle.type_placing.specs.TypePlaced.{TypePut, TypeWritten, MembersPlaced}
 use Rattle.type_placing.specs.declared.Passed.{Passed}
 use Rattle.type_placing.proofs.Stacks.{keeps-then, keeps-names}
@@ -76,13 +78,13 @@ pub record Entered (types : List ℕ) (levels k base n at sp : ℕ) (s : List �
   pub is-node : node ≡ typeAt types k
   pub is-count : count ≡ countWithin levels (node .«member_count»)
   pub room : Room s k 1 at (base + n) sp
-  pub within : treeAt types levels k .next ≤ nodeLimit
+  pub within : treeAt types levels k .next ≤ typeRoom
 
 module _ {types : List ℕ} {levels k base n at sp : ℕ} {s : List ℕ} {node : TypeRecord} {count : ℕ} (known : Entered types levels k base n at sp s node count) where
-  pub members-within : membersAt (treeAt types (levels - 1)) types count (k + 1) .next ≤ nodeLimit
+  pub members-within : membersAt (treeAt types (levels - 1)) types count (k + 1) .next ≤ typeRoom
   members-within = omega (arith, known .within, ap (λ (w : Walked (TypeDesc Text)). w .next) (tree-counted types levels k (known .is-node) (known .is-count)))
 
-  pub node-early : k < nodeLimit
+  pub node-early : k < typeRoom
   node-early = omega (arith, known .within, tree-up types levels k)
 
 module _ {chunk edits types : List ℕ} {sm5 : Bool} {levels k base n at sp : ℕ} {s s₁ s₂ out out₁ out₂ : List ℕ} {node : TypeRecord} {count : ℕ} {name : Spot} {members : Passed}
@@ -97,7 +99,7 @@ module _ {chunk edits types : List ℕ} {sm5 : Bool} {levels k base n at sp : �
   next-is = walked .next ∙ sym (ap (λ (w : Walked (TypeDesc Text)). w .next) (tree-counted types levels k (known .is-node) (known .is-count)))
 
   -- Their records lie on the stack, in the scratch, and the cursor is not too far.
-  pub records-end : members .sp ≤ recordsStart + nodeLimit * 3
+  pub records-end : members .sp ≤ recordsStart + typeRoom * 3
   records-end = omega (arith, walked .records, next-is, known .within, known .room .records-high)
 
   pub records-in : members .sp ≤ length s₂
@@ -106,10 +108,10 @@ module _ {chunk edits types : List ℕ} {sm5 : Bool} {levels k base n at sp : �
   pub records-long : length (region sp (members .sp) s₂) ≡ members .sp - sp
   records-long = length-region sp (members .sp) s₂ (omega (arith, walked .pushed)) records-in
 
-  pub records-few : length (region sp (members .sp) s₂) ≤ 12288
+  pub records-few : length (region sp (members .sp) s₂) ≤ typeRoom * 3
   records-few = omega (arith, records-long, records-end, known .room .records-low)
 
-  pub cursor-near : members .at ≤ 4000000000
+  pub cursor-near : members .at ≤ farthestOffset
   cursor-near = omega (arith, walked .near, next-is, known .within, named .near-high, known .room .cursor)
 
   pub type-written : {out₃ : List ℕ} {placed : Spot} → TypePut sm5 (nodeFrom node .numbers) (name .offset) (region sp (members .sp) s₂) (members .at) out₂ out₃ placed

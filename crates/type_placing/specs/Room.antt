@@ -7,10 +7,6 @@ use lib.ListN.{length, getD}
 use Rattle.text_pool.specs.Pool.{entryCount}
 use Rattle.placing.specs.Scratch.{innerStart, defaultsStart, memberTypesStart, recordsStart, variablesStart, innerPool}
 
--- The most nodes that a table has.
-abbrev pub nodeLimit : ℕ
-nodeLimit = 4096
-
 -- The nodes before node k are placed, and `named` more names (the one that node k has as a member or a variable): how far the cursor is, how many names the
 -- pool has, how many types lie on the stack of members' types, and where the stack of records ends.
 pub record Room (s : List ℕ) (k named at entries sp : ℕ) : Type 0 where

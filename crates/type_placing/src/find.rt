@@ -2,6 +2,7 @@
 ghost use mathlib.Core.Path.{_≡_};
 ghost use Prim.Native.Nat.{_+_, _*_, _≤_};
 ghost use lib.ListN.{length};
+ghost use Rattle.reflection.specs.Limits.{typeRoom};
 ghost use Rattle.text_pool.specs.Pool.{pooledAt};
 ghost use Rattle.type_placing.specs.TypePlaced.{typeOffset, sharedOffset};
 use text_pool::Pooled;
@@ -25,7 +26,7 @@ fn find_type<'a>(
     k: usize,
     levels: usize,
 ) -> Pooled
-    requires { ⌜ (start + (base + n) * 2 ≤ length (now s)) × (k ≤ 4096) ⌝ }
+    requires { ⌜ (start + (base + n) * 2 ≤ length (now s)) × (k ≤ typeRoom) ⌝ }
     ensures { λ r. ⌜ pooledAt r ≡ typeOffset (now (chunk .entry)) (now (edits .entry)) (now (types .entry)) levels k (now (s .entry)) start base n ⌝ }
 {
     let mut left = n;
@@ -53,7 +54,7 @@ pub fn find_shared<'a>(
     levels: usize,
     share: bool,
 ) -> Pooled
-    requires { ⌜ (start + (base + n) * 2 ≤ length (now s)) × (k ≤ 4096) ⌝ }
+    requires { ⌜ (start + (base + n) * 2 ≤ length (now s)) × (k ≤ typeRoom) ⌝ }
     ensures { λ r. ⌜ pooledAt r ≡ sharedOffset share (now (chunk .entry)) (now (edits .entry)) (now (types .entry)) levels k (now (s .entry)) start base n ⌝ }
 {
     if share {

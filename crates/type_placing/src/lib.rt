@@ -1,13 +1,11 @@
 // Places the types of variables: a type that was written before is found, any other is written with its members, in one pass (document 01, "Canonical form").
+// Past a chunk's limit the chunk is refused, so types are no longer looked up or written.
 mod find;
 mod put;
 mod root;
 mod write;
 
 pub use root::place_root_type;
-
-// How long a chunk may be. Past it the chunk is refused, so types are no longer looked up or written.
-const CHUNK_LIMIT: usize = 65536;
 
 // A type that was placed: its offset, the cursor and the node after it, and how many types now lie where its members' (as a member's type: its own) are looked up.
 pub struct Span {

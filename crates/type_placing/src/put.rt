@@ -1,10 +1,11 @@
 // Writes the end of a type: its members' records and its descriptor.
 ghost use mathlib.Core.Path.{_≡_};
-ghost use Prim.Native.Nat.{_≤_};
+ghost use Prim.Native.Nat.{_*_, _≤_};
 ghost use lib.ListN.{length};
 ghost use Rattle.words.specs.Words.{wordBytes};
 ghost use Rattle.words.specs.Splice.{Put};
 ghost use Rattle.reflection.specs.Decode.{nodeFrom};
+ghost use Rattle.reflection.specs.Limits.{typeRoom};
 ghost use Rattle.writing.specs.Records.{halves, typeWords};
 ghost use Rattle.placing.specs.Bytes.{joinedBytes};
 ghost use Rattle.placing.specs.Pooling.{farthestOffset};
@@ -22,7 +23,7 @@ fn two_halves(low: u32, high: u32) -> u32
 
 // Writes the members' records, after padding; nothing, and offset 0, where there are none.
 fn put_records(out: &mut [u8], at: usize, records: &[u32]) -> Spot
-    requires { ⌜ (at ≤ farthestOffset) × (length (now records) ≤ 12288) ⌝ }
+    requires { ⌜ (at ≤ farthestOffset) × (length (now records) ≤ typeRoom * 3) ⌝ }
     ensures { λ r. ⌜ RecordsPut (now (records .entry)) at (now (out .entry)) (now (out .exit)) r ⌝ }
 {
     if records.len() == 0 {
@@ -70,7 +71,7 @@ pub fn put_type(
     name: u32,
     sm5: bool,
 ) -> Spot
-    requires { ⌜ (at ≤ farthestOffset) × (length (now records) ≤ 12288) ⌝ }
+    requires { ⌜ (at ≤ farthestOffset) × (length (now records) ≤ typeRoom * 3) ⌝ }
     ensures { λ r. ⌜ TypePut sm5 (nodeFrom node .numbers) name (now (records .entry)) at (now (out .entry)) (now (out .exit)) r ⌝ }
 {
     let count = records.len() / 3;

@@ -1,24 +1,20 @@
 // Places the type of a variable: types of variables are shared apart from those of members.
 ghost use Prim.Native.Nat.{_+_, _<_, _≤_};
 ghost use Rattle.reflection.specs.Nodes.{typeLevels};
+ghost use Rattle.reflection.specs.Limits.{variableRoom, typeRoom};
 ghost use Rattle.placing.specs.Pooling.{Short};
 ghost use Rattle.placing.specs.Scratch.{recordsStart, Ready};
 ghost use Rattle.type_equality.specs.Trees.{treeAt};
-ghost use Rattle.type_placing.specs.Room.{Room, nodeLimit};
+ghost use Rattle.type_placing.specs.Room.{Room};
 ghost use Rattle.type_placing.specs.TypePlaced.{RootTypePlaced};
-use crate::CHUNK_LIMIT;
 use crate::RootSpan;
 use crate::find::find_shared;
 use crate::write::write_type;
+use placing::RECORDS_START;
+use placing::ROOT_TYPES_START;
+use reflection::CHUNK_LIMIT;
+use reflection::TYPE_LEVELS;
 use text_pool::Pooled;
-
-// How many levels a type has at most.
-const TYPE_LEVELS: usize = 65;
-
-// Where the entries of variables' types begin in the scratch, and where the stack of records does.
-const ROOT_TYPES_START: usize = 63488;
-
-const RECORDS_START: usize = 75776;
 
 // Places the type at node k as a variable's. `roots` types of variables may be shared already, and the types of all their members are n entries.
 pub fn place_root_type<'a>(
@@ -37,8 +33,8 @@ pub fn place_root_type<'a>(
     requires { ⌜ Short (now chunk) (now edits) ⌝ }
     requires { ⌜ Ready (now chunk) (now edits) (now s) ⌝ }
     requires { ⌜ Room (now s) k 1 at n recordsStart ⌝ }
-    requires { ⌜ treeAt (now types) typeLevels k .next ≤ nodeLimit ⌝ }
-    requires { ⌜ roots < 2048 ⌝ }
+    requires { ⌜ treeAt (now types) typeLevels k .next ≤ typeRoom ⌝ }
+    requires { ⌜ roots < variableRoom ⌝ }
     ensures { λ r. ⌜ RootTypePlaced (now (chunk .entry)) (now (edits .entry)) (now (types .entry)) sm5 share typeLevels k n roots at (now (s .entry)) (now (s .exit)) (now (out .entry)) (now (out .exit)) r ⌝ }
 {
     if at > CHUNK_LIMIT {

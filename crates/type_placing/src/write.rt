@@ -1,6 +1,7 @@
 // Writes a type with its members: each member's type is found among those before it or written one level deeper.
 ghost use mathlib.Core.Path.{_≡_};
 ghost use Prim.Native.Nat.{_+_, _-_, _≤_, _<_};
+ghost use Rattle.reflection.specs.Limits.{typeRoom};
 ghost use Rattle.writing.specs.Step.{unlessEmpty};
 ghost use Rattle.writing.specs.Layout.{placeInnerName};
 ghost use Rattle.text_pool.specs.Pool.{entryCount};
@@ -11,19 +12,17 @@ ghost use Rattle.placing.specs.InScratch.{innerRoom, TextPlaced};
 ghost use Rattle.placing.specs.Pooling.{farthestOffset};
 ghost use Rattle.type_equality.specs.Trees.{treeAt, membersAt};
 ghost use Rattle.type_placing.specs.Writing.{countWithin};
-ghost use Rattle.type_placing.specs.Room.{Room, nodeLimit};
+ghost use Rattle.type_placing.specs.Room.{Room};
 ghost use Rattle.type_placing.specs.TypePlaced.{TypeWritten, MemberTypePlaced, MembersPlaced};
-use crate::CHUNK_LIMIT;
 use crate::Passed;
 use crate::Span;
 use crate::find::find_shared;
 use crate::put::put_type;
+use placing::MEMBER_TYPES_START;
 use placing::Spot;
+use reflection::CHUNK_LIMIT;
 use reflection::Text;
 use text_pool::Pooled;
-
-// Where the entries of members' types begin in the scratch.
-const MEMBER_TYPES_START: usize = 67584;
 
 // Places a type's name; an empty one has offset 0.
 fn place_type_name<'a>(
@@ -72,7 +71,7 @@ pub fn write_type<'a>(
     requires { ⌜ Short (now chunk) (now edits) ⌝ }
     requires { ⌜ Ready (now chunk) (now edits) (now s) ⌝ }
     requires { ⌜ Room (now s) k 1 at (base + n) sp ⌝ }
-    requires { ⌜ treeAt (now types) levels k .next ≤ nodeLimit ⌝ }
+    requires { ⌜ treeAt (now types) levels k .next ≤ typeRoom ⌝ }
     ensures { λ r. ⌜ TypeWritten (now (chunk .entry)) (now (edits .entry)) (now (types .entry)) sm5 levels k base n at sp (now (s .entry)) (now (s .exit)) (now (out .entry)) (now (out .exit)) r ⌝ }
 {
     let node = reflection::type_at(types, k);
@@ -123,7 +122,7 @@ fn place_members<'a>(
     requires { ⌜ Short (now chunk) (now edits) ⌝ }
     requires { ⌜ Ready (now chunk) (now edits) (now s) ⌝ }
     requires { ⌜ Room (now s) k 0 at (base + n) sp ⌝ }
-    requires { ⌜ membersAt (treeAt (now types) (levels - 1)) (now types) count k .next ≤ nodeLimit ⌝ }
+    requires { ⌜ membersAt (treeAt (now types) (levels - 1)) (now types) count k .next ≤ typeRoom ⌝ }
     requires { ⌜ (levels ≡ 0 → count ≡ 0) ⌝ }
     ensures { λ r. ⌜ MembersPlaced (now (chunk .entry)) (now (edits .entry)) (now (types .entry)) sm5 levels count k base n at sp (now (s .entry)) (now (s .exit)) (now (out .entry)) (now (out .exit)) r ⌝ }
 {
@@ -185,7 +184,7 @@ fn place_member_type<'a>(
     requires { ⌜ Short (now chunk) (now edits) ⌝ }
     requires { ⌜ Ready (now chunk) (now edits) (now s) ⌝ }
     requires { ⌜ Room (now s) k 1 at (base + n) sp ⌝ }
-    requires { ⌜ treeAt (now types) levels k .next ≤ nodeLimit ⌝ }
+    requires { ⌜ treeAt (now types) levels k .next ≤ typeRoom ⌝ }
     ensures { λ r. ⌜ MemberTypePlaced (now (chunk .entry)) (now (edits .entry)) (now (types .entry)) sm5 levels k base n at sp (now (s .entry)) (now (s .exit)) (now (out .entry)) (now (out .exit)) r ⌝ }
 {
     if at > CHUNK_LIMIT {
