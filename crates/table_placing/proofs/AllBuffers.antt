@@ -2,7 +2,7 @@
 use mathlib.Core.Path.{_≡_, refl, ap, sym, _∙_, subst}
 use mathlib.Core.Bool.{Bool}
 use mathlib.Core.List.{List, [], _∷_, map}
-use Prim.Native.Nat.{ℕ, zero, suc, _+_, _*_, _≤_}
+use Prim.Native.Nat.{ℕ, zero, suc, _+_, _*_, _/_, _≤_}
 use native.Mathlib.Omega.{arith}
 use lib.ListN.{length, replicate}
 use Rattle.words.specs.Splice.{Put}
@@ -10,6 +10,8 @@ use Rattle.reflection.specs.declared.Text.{Text}
 use Rattle.reflection.specs.Reflection.{CBufferDef}
 use Rattle.reflection.specs.Records.{bufferWidth, bufferAt}
 use Rattle.reflection.specs.Decode.{recordsFrom, bufferFrom}
+use Rattle.reflection.specs.Limits.{bufferRoom}
+use Rattle.reflection.specs.Strides.{bufferStride}
 use Rattle.writing.specs.Step.{Pools, paddingAt}
 use Rattle.writing.specs.Records.{Section, rows, bufferWords}
 use Rattle.writing.specs.Layout.{zip, placeOuterNames, placeSections, placeBuffers}
@@ -47,7 +49,7 @@ no-buffers chunk edits buffers variables types sm5 {count} {at} s out none ready
 -- The law of the buffers, for the records of a table.
 some-buffers : (chunk edits : List ℕ) (sm5 : Bool) (held : ℕ → CBufferDef Text Text) (count : ℕ) {at start mid to end : ℕ} {ps ps₁ ps₂ : Pools Text Text} {out out₁ out₂ out₃ out₄ names : List ℕ} {sections : List Section}
     → (count ≡ 0 → ⊥) → Put out at (replicate (paddingAt at) 0xab) out₁ start
-    → Ran chunk edits (placeOuterNames (textOracle chunk edits) (map (λ b. b .name) (recordsFrom held 0 count))) (start + 4 * (length (recordsFrom held 0 count) * 6)) ps out₁ out₂ names mid ps₁
+    → Ran chunk edits (placeOuterNames (textOracle chunk edits) (map (λ b. b .name) (recordsFrom held 0 count))) (start + 4 * (length (recordsFrom held 0 count) * (bufferStride / 4))) ps out₁ out₂ names mid ps₁
     → Ran chunk edits (placeSections (textOracle chunk edits) sm5 (recordsFrom held 0 count)) mid ps₁ out₂ out₃ sections to ps₂
     → Put out₃ start (joinedBytes (rows bufferWords (recordsFrom held 0 count) (zip names sections))) out₄ end
     → Ran chunk edits (placeBuffers (textOracle chunk edits) sm5 (recordsFrom held 0 count)) at ps out out₄ (start, zip names sections) to ps₂
@@ -55,10 +57,10 @@ unfolding recordsFrom
 some-buffers chunk edits sm5 held zero some padded named placed written = absurd (some refl)
 some-buffers chunk edits sm5 held (suc m) some padded named placed written = ran-buffers chunk edits sm5 (held 0) (recordsFrom held 1 m) padded named placed written
 
-module _ {chunk edits : List ℕ} (buffers types : List ℕ) {count at start : ℕ} {s out out₁ : List ℕ} (ready : Ready chunk edits s) (unplaced : Unplaced count at s) (fit : Fit buffers types count) (few : count ≤ 64)
+module _ {chunk edits : List ℕ} (buffers types : List ℕ) {count at start : ℕ} {s out out₁ : List ℕ} (ready : Ready chunk edits s) (unplaced : Unplaced count at s) (fit : Fit buffers types count) (few : count ≤ bufferRoom)
     (padded : Put out at (replicate (paddingAt at) 0xab) out₁ start) where
   -- There is room for the names, and then for the sections.
-  pub buffer-names-room : NamesRoom count buffersStart 2 (start + 4 * (count * 6)) s
+  pub buffer-names-room : NamesRoom count buffersStart 2 (start + 4 * (count * (bufferStride / 4))) s
   buffer-names-room = record {
     stored = omega arith;
     apart = omega arith;
@@ -67,7 +69,7 @@ module _ {chunk edits : List ℕ} (buffers types : List ℕ) {count at start : �
     cursor = omega (arith, unplaced .cursor, padding-near padded, few);
   }
 
-  module _ {s₁ out₂ : List ℕ} {at₂ : ℕ} (named : NamesPlaced chunk edits (nameAt bufferWidth buffers) count buffersStart 2 (start + 4 * (count * 6)) s s₁ out₁ out₂ at₂) where
+  module _ {s₁ out₂ : List ℕ} {at₂ : ℕ} (named : NamesPlaced chunk edits (nameAt bufferWidth buffers) count buffersStart 2 (start + 4 * (count * (bufferStride / 4))) s s₁ out₁ out₂ at₂) where
     pub sections-room : Within 0 0 0 0 (at₂ + 200000) s₁
     sections-room = record {
       cursor = omega (arith, unplaced .cursor, padding-near padded, few, named .near);
@@ -111,9 +113,9 @@ module _ {chunk edits : List ℕ} (buffers types : List ℕ) {count at start : �
       stored : recordsFrom (storedAt buffersStart 2 s₁) 0 count ≡ recordsFrom (bufferName s₂) 0 count
       stored = same-records (storedAt buffersStart 2 s₁) (bufferName s₂) 0 count (λ i low high. name-is i ∙ sym (placed .names-kept i))
 
-      named-ran : Ran chunk edits (placeOuterNames (textOracle chunk edits) (map (λ b. b .name) bs)) (start + 4 * (length bs * 6)) (poolsAt types s 0 0) out₁ out₂ (recordsFrom (bufferName s₂) 0 count) at₂ (poolsAt types s₁ 0 0)
+      named-ran : Ran chunk edits (placeOuterNames (textOracle chunk edits) (map (λ b. b .name) bs)) (start + 4 * (length bs * (bufferStride / 4))) (poolsAt types s 0 0) out₁ out₂ (recordsFrom (bufferName s₂) 0 count) at₂ (poolsAt types s₁ 0 0)
       named-ran =
-          ran-from (ap (λ (x : ℕ). start + 4 * (x * 6)) (sym (length-records held 0 count)))
+          ran-from (ap (λ (x : ℕ). start + 4 * (x * (bufferStride / 4))) (sym (length-records held 0 count)))
           (ran-step chunk edits (ap (placeOuterNames (textOracle chunk edits)) names-are) (ran-like chunk edits refl refl stored (named .ran types)))
 
       pub buffers-placed : BuffersPlaced chunk edits buffers variables types sm5 count at s s₂ out out₄ (record { offset = start; at = r .at })

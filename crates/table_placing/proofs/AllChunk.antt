@@ -1,7 +1,7 @@
 -- The whole chunk, from what the calls did in turn: the bindings' names and records, the buffers, the creator, padding, and the header. What was put is the layout
 -- of the reflection that the tables hold, over places, and that is its canonical form, over bytes.
 use mathlib.Core.Path.{_≡_, refl, ap, sym, _∙_, subst}
-use mathlib.Core.Bool.{Bool}
+use mathlib.Core.Bool.{Bool, true}
 use mathlib.Core.List.{List, [], _∷_, map}
 use mathlib.Core.Logic.{_⊎_, ⊎-elim}
 use Prim.Native.Nat.{ℕ, _+_, _*_, _≤_}
@@ -16,6 +16,7 @@ use Rattle.reflection.specs.Texts.{textBytes}
 use Rattle.reflection.specs.Contents.{contents}
 use Rattle.reflection.specs.Records.{bindingWidth, bindingAt}
 use Rattle.reflection.specs.Decode.{recordsFrom, bindingFrom, rd11From}
+use Rattle.reflection.specs.Limits.{bindingRoom}
 use Rattle.writing.specs.Step.{pools, paddingAt}
 use Rattle.writing.specs.Records.{Section, rows, bindingWords, bindingSize, rd11Words, headerWords, headerSize}
 use Rattle.writing.specs.Layout.{placeOuterNames, placeInnerName, layout}
@@ -58,13 +59,13 @@ length-bindings : (bindings : List ℕ) (n : ℕ) → length (map bindingFrom (r
 length-bindings bindings n = length-map (recordsFrom (bindingAt bindings) 0 n) bindingFrom ∙ length-records (bindingAt bindings) 0 n
 
 -- There is room at each call.
-pub bindings-behind : (h : Header) (buffers types : List ℕ) {bsize : ℕ} → Sized h buffers types → bsize ≤ 10 → h .«binding_count» * bsize ≤ 10240
+pub bindings-behind : (h : Header) (buffers types : List ℕ) {bsize : ℕ} → Sized h buffers types → bsize ≤ bindingSize true → h .«binding_count» * bsize ≤ bindingRoom * bindingSize true
 bindings-behind h buffers types sized few-binding = omega (arith, mul-le-mul-left (h .«binding_count») few-binding, sized .few-bindings)
 
 pub buffers-fit : (h : Header) (buffers types : List ℕ) → Sized h buffers types → Fit buffers types (h .«buffer_count»)
 buffers-fit h buffers types sized = record { few-variables = sized .few-variables; few-nodes = sized .few-nodes }
 
-module _ (h : Header) (buffers types : List ℕ) {s s₀ : List ℕ} {hsize bsize : ℕ} (sized : Sized h buffers types) (begun : PoolsBegun s s₀) (few-header : hsize ≤ 15) (few-binding : bsize ≤ 10) where
+module _ (h : Header) (buffers types : List ℕ) {s s₀ : List ℕ} {hsize bsize : ℕ} (sized : Sized h buffers types) (begun : PoolsBegun s s₀) (few-header : hsize ≤ headerSize true) (few-binding : bsize ≤ bindingSize true) where
   pub binding-names-room : NamesRoom (h .«binding_count») bindingsStart 1 (4 * hsize + 4 * (h .«binding_count» * bsize)) s₀
   binding-names-room = record {
     stored = omega arith;

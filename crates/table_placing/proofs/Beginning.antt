@@ -6,7 +6,7 @@ use native.Mathlib.Omega.{arith}
 use lib.ListN.{length, take, drop}
 use Rattle.writing.specs.Step.{pools}
 use Rattle.text_pool.specs.Pool.{Indexed, entries, entryCount, entriesStart, Begun}
-use Rattle.placing.specs.Scratch.{innerStart, defaultsStart, rootTypesStart, scratchEnd, region, outerPool, innerPool, defaultPool, typesFrom, poolsIn}
+use Rattle.placing.specs.Scratch.{innerStart, defaultsStart, rootTypesStart, scratchSize, region, outerPool, innerPool, defaultPool, typesFrom, poolsIn}
 use Rattle.placing.specs.InScratch.{Kept}
 use Rattle.placing.proofs.Regions.{length-region, lent-kept, lent-region}
 use Rattle.placing.proofs.ScratchPools.{outer-kept-before, inner-kept-before}
@@ -27,7 +27,7 @@ module _ (from to : ℕ) (s s′ p : List ℕ) (order : from ≤ to) (fits : to 
   begun-indexed : (chunk edits : List ℕ) → entriesStart ≤ to - from → Indexed chunk edits p
   begun-indexed chunk edits wide = begun .indexed chunk edits (omega (arith, length-region from to s order fits))
 
-pub pools-begun : (s s₁ s₂ s₃ p₁ p₂ p₃ : List ℕ) → scratchEnd ≤ length s
+pub pools-begun : (s s₁ s₂ s₃ p₁ p₂ p₃ : List ℕ) → scratchSize ≤ length s
     → s₁ ≡ take 0 s ++ (p₁ ++ drop (innerStart - 0) (drop 0 s)) → Begun (outerPool s) p₁
     → s₂ ≡ take innerStart s₁ ++ (p₂ ++ drop (defaultsStart - innerStart) (drop innerStart s₁)) → Begun (innerPool s₁) p₂
     → s₃ ≡ take defaultsStart s₂ ++ (p₃ ++ drop (rootTypesStart - defaultsStart) (drop defaultsStart s₂)) → Begun (defaultPool s₂) p₃
@@ -35,9 +35,9 @@ pub pools-begun : (s s₁ s₂ s₃ p₁ p₂ p₃ : List ℕ) → scratchEnd �
 unfolding outerPool innerPool defaultPool poolsAt poolsIn typesFrom
 pools-begun s s₁ s₂ s₃ p₁ p₂ p₃ fits back₁ begun₁ back₂ begun₂ back₃ begun₃ =
     let kept₁ = begun-kept 0 innerStart s s₁ p₁ (omega arith) (omega arith) back₁ begun₁ in
-    let fits₁ : scratchEnd ≤ length s₁ = omega (arith, kept₁ .long) in
+    let fits₁ : scratchSize ≤ length s₁ = omega (arith, kept₁ .long) in
     let kept₂ = begun-kept innerStart defaultsStart s₁ s₂ p₂ (omega arith) (omega arith) back₂ begun₂ in
-    let fits₂ : scratchEnd ≤ length s₂ = omega (arith, kept₂ .long) in
+    let fits₂ : scratchSize ≤ length s₂ = omega (arith, kept₂ .long) in
     let kept₃ = begun-kept defaultsStart rootTypesStart s₂ s₃ p₃ (omega arith) (omega arith) back₃ begun₃ in
     let outer : outerPool s₃ ≡ p₁ = outer-kept-before kept₃ fits₂ (omega arith) ∙ outer-kept-before kept₂ fits₁ (omega arith) ∙ begun-region 0 innerStart s s₁ p₁ (omega arith) (omega arith) back₁ begun₁ in
     let inner : innerPool s₃ ≡ p₂ = inner-kept-before kept₃ fits₂ (omega arith) ∙ begun-region innerStart defaultsStart s₁ s₂ p₂ (omega arith) (omega arith) back₂ begun₂ in

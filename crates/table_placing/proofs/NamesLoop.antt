@@ -13,7 +13,8 @@ use Rattle.writing.specs.Layout.{placeOuterName, placeOuterNames}
 use Rattle.text_pool.specs.Pool.{entryCount}
 use Rattle.placing.specs.declared.Spot.{Spot}
 use Rattle.placing.specs.Ran.{textOracle}
-use Rattle.placing.specs.Scratch.{innerStart, scratchEnd, outerPool, Ready}
+use Rattle.placing.specs.Scratch.{innerStart, scratchSize, outerPool, Ready}
+use Rattle.placing.specs.Pooling.{placedLimit}
 use Rattle.placing.specs.InScratch.{Kept, TextPlaced}
 use Rattle.placing.proofs.ScratchPools.{ready-kept, outer-kept-before}
 use Rattle.table_placing.specs.Placed.{poolsAt, Same, nameAt, storedAt, NamesRoom, NamesPlaced}
@@ -49,7 +50,7 @@ pub record NamesSoFar (chunk edits : List ℕ) (names : ℕ → Text) (n start s
   pub ready : Ready chunk edits s
   pub same : Same innerStart start s₀ s
   pub entries : entryCount (outerPool s) ≤ entryCount (outerPool s₀) + i
-  pub near : at ≤ at₀ + i * 65540
+  pub near : at ≤ at₀ + i * placedLimit
 
 module _ (chunk edits : List ℕ) (names : ℕ → Text) (n start step at₀ : ℕ) (s₀ out₀ : List ℕ) where
   pub names-none : Ready chunk edits s₀ → NamesSoFar chunk edits names n start step at₀ s₀ out₀ s₀ out₀ at₀ 0
@@ -84,7 +85,7 @@ module _ (chunk edits : List ℕ) (names : ℕ → Text) (n start step at₀ : �
       behind : start + i * step + step ≤ start + n * step
       behind = omega (arith, mul-le-mul-right step (let h : i + 1 ≤ n = omega arith in h))
 
-      pub names-below : start + i * step < scratchEnd
+      pub names-below : start + i * step < scratchSize
       names-below = omega (arith, behind, room .apart, room .inside)
 
       pub names-stored : start + i * step < length s

@@ -14,6 +14,8 @@ use Rattle.reflection.specs.declared.Text.{Text}
 use Rattle.reflection.specs.Reflection.{CBufferVariable}
 use Rattle.reflection.specs.Records.{bufferAt}
 use Rattle.reflection.specs.Decode.{recordsFrom, bufferFrom, variableFrom}
+use Rattle.reflection.specs.Limits.{bufferRoom, variableRoom, typeRoom}
+use Rattle.reflection.specs.Strides.{variableStride}
 use Rattle.writing.specs.Step.{paddingAt}
 use Rattle.writing.specs.Records.{VariableOffsets, rows, variableWords, variableSize}
 use Rattle.writing.specs.Layout.{placeVariables, placeSection}
@@ -41,16 +43,16 @@ pub variable-rows : (sm5 : Bool) (variables types s : List ℕ) (j count : ℕ)
 unfolding variableHeld variableRow variableWords variableFrom
 variable-rows sm5 variables types s j count = rows-records (variableWords sm5) (variableHeld variables types) (variableOffsets s) j count
 
--- Padding moves the cursor by at most 3, and a variable's record takes at most 40 bytes.
+-- Padding moves the cursor by at most 3, and a variable's record takes at most the longer stride.
 pub padding-near : {out out′ : List ℕ} {at to : ℕ} → Put out at (replicate (paddingAt at) 0xab) out′ to → (at ≤ to) × (to ≤ at + 3)
 padding-near {at = at} p = omega (arith, p .next, length-replicate {A = ℕ} (paddingAt at) 0xab, padding-short at)
 
-pub size-near : (sm5 : Bool) (count : ℕ) → 4 * (count * variableSize sm5) ≤ count * 40
+pub size-near : (sm5 : Bool) (count : ℕ) → 4 * (count * variableSize sm5) ≤ count * variableStride true
 size-near false count = omega arith
 size-near true count = omega arith
 
 module _ {chunk edits : List ℕ} (buffers variables types : List ℕ) {sm5 : Bool} (i k n roots : ℕ) {at start end at₁ : ℕ} {s s₁ out out₁ out₂ out₃ : List ℕ} {r : Reached} {share : Bool}
-    (few : i < 64) (few-variables : firstVariable buffers i + countAt buffers i ≤ 2048) (room : r .n ≤ 4096) (shared-room : r .roots ≤ 2048) (is-share : share ≡ eqb (bufferAt buffers i .«cb_type») 0)
+    (few : i < bufferRoom) (few-variables : firstVariable buffers i + countAt buffers i ≤ variableRoom) (room : r .n ≤ typeRoom) (shared-room : r .roots ≤ variableRoom) (is-share : share ≡ eqb (bufferAt buffers i .«cb_type») 0)
     (from : at₁ ≡ start + 4 * (countAt buffers i * variableSize sm5)) (padded : Put out at (replicate (paddingAt at) 0xab) out₁ start)
     (placed : VariablesPlaced chunk edits variables types sm5 share (firstVariable buffers i) (countAt buffers i) k n roots at₁ s s₁ out₁ out₂ r)
     (written : Put out₂ start (joinedBytes (rowsFrom (variableRow sm5 variables s₁) (firstVariable buffers i) (countAt buffers i))) out₃ end) where

@@ -13,12 +13,13 @@ use Rattle.reflection.specs.declared.Text.{Text}
 use Rattle.reflection.specs.Nodes.{typeLevels}
 use Rattle.reflection.specs.Records.{variableAt}
 use Rattle.reflection.specs.Decode.{variableFrom}
+use Rattle.reflection.specs.Limits.{typeRoom, variableRoom}
 use Rattle.writing.specs.Step.{Step}
 use Rattle.writing.specs.Layout.{placeInnerName, placeDefault, placeType, placeVariable}
 use Rattle.text_pool.specs.Pool.{entryCount}
 use Rattle.placing.specs.declared.Spot.{Spot}
 use Rattle.placing.specs.Ran.{Ran, textOracle}
-use Rattle.placing.specs.Scratch.{innerStart, defaultsStart, rootTypesStart, recordsStart, variablesStart, scratchEnd, innerPool, defaultPool}
+use Rattle.placing.specs.Scratch.{innerStart, defaultsStart, rootTypesStart, recordsStart, variablesStart, scratchSize, innerPool, defaultPool}
 use Rattle.placing.specs.InScratch.{innerRoom, defaultRoom, Kept, TextPlaced}
 use Rattle.placing.specs.Pooling.{farthestOffset}
 use Rattle.placing.proofs.ScratchPools.{inner-kept-before, defaults-kept-after, defaults-kept-before, ready-kept}
@@ -26,7 +27,7 @@ use Rattle.placing.proofs.Runs.{ran-like}
 use Rattle.type_equality.specs.Trees.{treeAt, typeTree}
 use Rattle.type_equality.proofs.Trees.{tree-up}
 use Rattle.type_placing.specs.declared.RootSpan.{RootSpan}
-use Rattle.type_placing.specs.Room.{Room, nodeLimit}
+use Rattle.type_placing.specs.Room.{Room}
 use Rattle.type_placing.specs.TypePlaced.{RootTypePlaced}
 use Rattle.table_placing.specs.Offsets.{variableOffsets}
 use Rattle.table_placing.specs.Placed.{poolsAt}
@@ -35,7 +36,7 @@ use Rattle.table_placing.proofs.Steps.{ran-variable}
 use Rattle.table_placing.proofs.Pools.{kept-splice, pools-at-kept, text-placed-at}
 
 -- There is room for the name, then for the type, then for the default.
-module _ (types : List ℕ) {j k n roots at : ℕ} {s : List ℕ} (within : Within j k n roots at s) (fits : treeAt types typeLevels k .next ≤ nodeLimit) (few : j < 2048) where
+module _ (types : List ℕ) {j k n roots at : ℕ} {s : List ℕ} (within : Within j k n roots at s) (fits : treeAt types typeLevels k .next ≤ typeRoom) (few : j < variableRoom) where
   pub room-for-name : (entryCount (innerPool s) < innerRoom) × (at ≤ farthestOffset)
   room-for-name = omega (arith, within .names, within .cursor, tree-up types typeLevels k, fits)
 
@@ -49,13 +50,13 @@ module _ (types : List ℕ) {j k n roots at : ℕ} {s : List ℕ} (within : With
       records-high = omega arith;
     }
 
-    pub room-for-default : {sm5 share : Bool} {s₂ out₂ : List ℕ} {t : RootSpan} → scratchEnd ≤ length s → RootTypePlaced chunk edits types sm5 share typeLevels k n roots (a .at) s₁ s₂ out₁ out₂ t
+    pub room-for-default : {sm5 share : Bool} {s₂ out₂ : List ℕ} {t : RootSpan} → scratchSize ≤ length s → RootTypePlaced chunk edits types sm5 share typeLevels k n roots (a .at) s₁ s₂ out₁ out₂ t
         → (entryCount (defaultPool s₂) < defaultRoom) × (t .at ≤ farthestOffset)
     room-for-default long typed =
         omega (arith, ap entryCount (typed .defaults-same), ap entryCount (defaults-kept-after (named .kept) long (omega arith)), within .defaults, within .cursor, named .near-high, typed .near, typed .next, fits, few)
 
 module _ {chunk edits : List ℕ} (variables types : List ℕ) {sm5 share : Bool} (j k n roots : ℕ) {at : ℕ} {s s₁ s₂ s₃ out out₁ out₂ out₃ : List ℕ} {a d : Spot} {t : RootSpan} {v : VariableRecord}
-    (within : Within j k n roots at s) (fits : treeAt types typeLevels k .next ≤ nodeLimit) (few : j < 2048) (long : scratchEnd ≤ length s) (is : v ≡ variableAt variables j)
+    (within : Within j k n roots at s) (fits : treeAt types typeLevels k .next ≤ typeRoom) (few : j < variableRoom) (long : scratchSize ≤ length s) (is : v ≡ variableAt variables j)
     (named : TextPlaced chunk edits (placeInnerName (textOracle chunk edits) (v .name)) at innerPool innerStart defaultsStart s s₁ out out₁ a)
     (typed : RootTypePlaced chunk edits types sm5 share typeLevels k n roots (a .at) s₁ s₂ out₁ out₂ t)
     (defaulted : TextPlaced chunk edits (placeDefault (textOracle chunk edits) (v .«default_value»)) (t .at) defaultPool defaultsStart rootTypesStart s₂ s₃ out₂ out₃ d) where
@@ -79,7 +80,7 @@ module _ {chunk edits : List ℕ} (variables types : List ℕ) {sm5 share : Bool
       let default = sym (splice-puts s₃ (variablesStart + j * 3) offsets room 2 0 (omega arith)) in
       λ i. record { name = name i; type = type i; default = default i }
 
-  bounds : (t .n ≤ 4096) × (t .roots ≤ 2048)
+  bounds : (t .n ≤ typeRoom) × (t .roots ≤ variableRoom)
   bounds = omega (arith, typed .stacked, typed .next, typed .one-root, within .stacked, within .rooted)
 
   named-at : Ran chunk edits (placeInnerName (textOracle chunk edits) (variableAt variables j .name)) at (poolsAt types s roots n) out out₁ (a .offset) (a .at) (poolsAt types s₁ roots n)

@@ -2,7 +2,7 @@
 -- each pool is read off its own region.
 use mathlib.Core.Path.{_≡_, refl, ap, sym, _∙_, subst}
 use mathlib.Core.List.{List, []}
-use Prim.Native.Nat.{ℕ, _+_, _≤_}
+use Prim.Native.Nat.{ℕ, _+_, _-_, _≤_}
 use native.Mathlib.Omega.{arith}
 use lib.ListN.{length, set, length-set}
 use lib.Seq.{getD-set-other}
@@ -11,10 +11,11 @@ use Rattle.words.proofs.Splice.{splice-keeps-before, splice-keeps-after}
 use Rattle.reflection.specs.declared.Text.{Text}
 use Rattle.reflection.specs.Reflection.{TypeDesc}
 use Rattle.reflection.specs.Nodes.{typeLevels}
+use Rattle.reflection.specs.Limits.{variableRoom, typeRoom}
 use Rattle.writing.specs.Step.{Pools, Step}
 use Rattle.placing.specs.declared.Spot.{Spot}
 use Rattle.placing.specs.Ran.{Ran}
-use Rattle.placing.specs.Scratch.{innerStart, defaultsStart, rootTypesStart, recordsStart, scratchEnd, innerPool, defaultPool, typesFrom, poolsIn, Ready}
+use Rattle.placing.specs.Scratch.{innerStart, defaultsStart, rootTypesStart, recordsStart, scratchSize, innerPool, defaultPool, typesFrom, poolsIn, Ready}
 use Rattle.placing.specs.InScratch.{Kept, TextPlaced}
 use Rattle.placing.proofs.Regions.{region-agree, types-kept-before, types-kept-after}
 use Rattle.placing.proofs.Runs.{ran-like, ran-long}
@@ -39,11 +40,11 @@ pub kept-before : {from to : ℕ} (from′ to′ : ℕ) {s s′ : List ℕ} → 
 kept-before from′ to′ apart k = record { long = k .long; words = λ i low high. k .before i (omega arith) }
 
 -- Pools of texts that stay.
-pub inner-same : {from to : ℕ} {s s′ : List ℕ} → Same from to s s′ → from ≤ innerStart → defaultsStart ≤ to → scratchEnd ≤ length s → innerPool s′ ≡ innerPool s
+pub inner-same : {from to : ℕ} {s s′ : List ℕ} → Same from to s s′ → from ≤ innerStart → defaultsStart ≤ to → scratchSize ≤ length s → innerPool s′ ≡ innerPool s
 unfolding innerPool
 inner-same {s = s} {s′} same low high long = region-agree innerStart defaultsStart s s′ (same .long) (omega arith) (λ i l h. same .words i (omega arith) (omega arith))
 
-pub defaults-same : {from to : ℕ} {s s′ : List ℕ} → Same from to s s′ → from ≤ defaultsStart → rootTypesStart ≤ to → scratchEnd ≤ length s → defaultPool s′ ≡ defaultPool s
+pub defaults-same : {from to : ℕ} {s s′ : List ℕ} → Same from to s s′ → from ≤ defaultsStart → rootTypesStart ≤ to → scratchSize ≤ length s → defaultPool s′ ≡ defaultPool s
 unfolding defaultPool
 defaults-same {s = s} {s′} same low high long = region-agree defaultsStart rootTypesStart s s′ (same .long) (omega arith) (λ i l h. same .words i (omega arith) (omega arith))
 
@@ -74,12 +75,12 @@ text-placed-long placed = ran-long (placed .ran [] (typeTree [] 0) 0 0)
 
 module _ (types : List ℕ) where
   -- What changed lies behind the pools.
-  pub pools-at-kept : {chunk edits s s′ : List ℕ} {from to : ℕ} (roots n : ℕ) → Ready chunk edits s → Kept from to s s′ → recordsStart ≤ from → roots ≤ 2048 → n ≤ 4096
+  pub pools-at-kept : {chunk edits s s′ : List ℕ} {from to : ℕ} (roots n : ℕ) → Ready chunk edits s → Kept from to s s′ → recordsStart ≤ from → roots ≤ variableRoom → n ≤ typeRoom
       → poolsAt types s′ roots n ≡ poolsAt types s roots n
   unfolding poolsAt
   pools-at-kept {s = s} {s′} roots n ready kept behind few-roots few =
-      ap (λ (ts : List (TypeDesc Text × ℕ)). poolsIn s′ ts (typeTree types 64) 0 n) (types-kept-before kept (typeTree types typeLevels) rootTypesStart 0 roots (omega arith))
-      ∙ pools-kept-before ready kept (omega arith) (typesFrom (typeTree types typeLevels) rootTypesStart s 0 roots) (typeTree types 64) 0 n (omega arith)
+      ap (λ (ts : List (TypeDesc Text × ℕ)). poolsIn s′ ts (typeTree types (typeLevels - 1)) 0 n) (types-kept-before kept (typeTree types typeLevels) rootTypesStart 0 roots (omega arith))
+      ∙ pools-kept-before ready kept (omega arith) (typesFrom (typeTree types typeLevels) rootTypesStart s 0 roots) (typeTree types (typeLevels - 1)) 0 n (omega arith)
 
   -- A text was placed: its pool lies before the types.
   pub text-placed-at : {chunk edits : List ℕ} {step : Step Text Text ℕ} {at from to : ℕ} {pool : List ℕ → List ℕ} {s s′ out out′ : List ℕ} {r : Spot} (roots n : ℕ)
@@ -88,5 +89,5 @@ module _ (types : List ℕ) where
   unfolding poolsAt
   text-placed-at {chunk} {edits} {s = s} {s′} roots n placed before =
       ran-like chunk edits refl
-      (ap (λ (ts : List (TypeDesc Text × ℕ)). poolsIn s′ ts (typeTree types 64) 0 n) (sym (types-kept-after (placed .kept) (typeTree types typeLevels) rootTypesStart 0 roots before)))
-      refl (placed .ran (typesFrom (typeTree types typeLevels) rootTypesStart s 0 roots) (typeTree types 64) 0 n)
+      (ap (λ (ts : List (TypeDesc Text × ℕ)). poolsIn s′ ts (typeTree types (typeLevels - 1)) 0 n) (sym (types-kept-after (placed .kept) (typeTree types typeLevels) rootTypesStart 0 roots before)))
+      refl (placed .ran (typesFrom (typeTree types typeLevels) rootTypesStart s 0 roots) (typeTree types (typeLevels - 1)) 0 n)

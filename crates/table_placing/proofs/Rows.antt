@@ -2,12 +2,13 @@
 use mathlib.Core.Path.{_≡_, refl, ap, sym, _∙_, subst}
 use mathlib.Core.Bool.{Bool, true, false}
 use mathlib.Core.List.{List, _++_, append-nil, append-assoc}
-use Prim.Native.Nat.{ℕ, zero, suc, _+_, _*_, _≤_}
+use Prim.Native.Nat.{ℕ, zero, suc, _+_, _*_, _/_, _≤_}
 use native.Mathlib.Nat.{add-zero, add-suc, suc-add, mul-le-mul-left}
 use native.Mathlib.Numerals.{add-one}
 use native.Mathlib.Omega.{arith}
 use lib.ListN.{length}
 use Rattle.words.specs.Splice.{Put, put-none, put-then}
+use Rattle.reflection.specs.Strides.{bufferStride}
 use Rattle.writing.specs.Records.{variableSize, bindingWords, bindingSize}
 use Rattle.placing.specs.Bytes.{joinedBytes}
 use Rattle.placing.proofs.CellBytes.{length-joined, joined-append}
@@ -44,7 +45,7 @@ unfolding variableRow
 length-variable-row false variables s j = refl
 length-variable-row true variables s j = refl
 
-pub length-buffer-row : (buffers s : List ℕ) (i : ℕ) → length (bufferRow buffers s i) ≡ 6
+pub length-buffer-row : (buffers s : List ℕ) (i : ℕ) → length (bufferRow buffers s i) ≡ bufferStride / 4
 unfolding bufferRow
 length-buffer-row buffers s i = refl
 
@@ -54,18 +55,18 @@ length-binding-row false bindings s i = refl
 length-binding-row true bindings s i = refl
 
 -- How far the cursor then is.
-size-near : (long short : ℕ) (size : Bool → ℕ) (b : Bool) (n at to : ℕ) → short ≤ long → size false ≡ short → size true ≡ long → to ≡ at + 4 * (n * size b) → to ≤ at + 4 * (n * long)
-size-near long short size false n at to less f t e = omega (arith, e, ap (λ (k : ℕ). n * k) f, mul-le-mul-left n less)
-size-near long short size true n at to less f t e = omega (arith, e, ap (λ (k : ℕ). n * k) t)
+size-near : (size : Bool → ℕ) (b : Bool) (n at to : ℕ) → size false ≤ size true → to ≡ at + 4 * (n * size b) → to ≤ at + 4 * (n * size true)
+size-near size false n at to less e = omega (arith, e, mul-le-mul-left n less)
+size-near size true n at to less e = omega (arith, e)
 
 module _ {out out′ : List ℕ} {at to : ℕ} where
-  pub variable-rows-near : (sm5 : Bool) (variables s : List ℕ) (j n : ℕ) → Put out at (joinedBytes (rowsFrom (variableRow sm5 variables s) j n)) out′ to → to ≤ at + 4 * (n * 10)
+  pub variable-rows-near : (sm5 : Bool) (variables s : List ℕ) (j n : ℕ) → Put out at (joinedBytes (rowsFrom (variableRow sm5 variables s) j n)) out′ to → to ≤ at + 4 * (n * variableSize true)
   variable-rows-near sm5 variables s j n p =
-      size-near 10 6 variableSize sm5 n at to (omega arith) refl refl (rows-put-end (variableRow sm5 variables s) j (variableSize sm5) n (length-variable-row sm5 variables s) p)
+      size-near variableSize sm5 n at to (omega arith) (rows-put-end (variableRow sm5 variables s) j (variableSize sm5) n (length-variable-row sm5 variables s) p)
 
-  pub buffer-rows-near : (buffers s : List ℕ) (n : ℕ) → Put out at (joinedBytes (rowsFrom (bufferRow buffers s) 0 n)) out′ to → to ≤ at + 4 * (n * 6)
-  buffer-rows-near buffers s n p = omega (arith, rows-put-end (bufferRow buffers s) 0 6 n (length-buffer-row buffers s) p)
+  pub buffer-rows-near : (buffers s : List ℕ) (n : ℕ) → Put out at (joinedBytes (rowsFrom (bufferRow buffers s) 0 n)) out′ to → to ≤ at + 4 * (n * (bufferStride / 4))
+  buffer-rows-near buffers s n p = omega (arith, rows-put-end (bufferRow buffers s) 0 (bufferStride / 4) n (length-buffer-row buffers s) p)
 
-  pub binding-rows-near : (wide : Bool) (bindings s : List ℕ) (n : ℕ) → Put out at (joinedBytes (rowsFrom (bindingRow wide bindings s) 0 n)) out′ to → to ≤ at + 4 * (n * 10)
+  pub binding-rows-near : (wide : Bool) (bindings s : List ℕ) (n : ℕ) → Put out at (joinedBytes (rowsFrom (bindingRow wide bindings s) 0 n)) out′ to → to ≤ at + 4 * (n * bindingSize true)
   binding-rows-near wide bindings s n p =
-      size-near 10 8 bindingSize wide n at to (omega arith) refl refl (rows-put-end (bindingRow wide bindings s) 0 (bindingSize wide) n (length-binding-row wide bindings s) p)
+      size-near bindingSize wide n at to (omega arith) (rows-put-end (bindingRow wide bindings s) 0 (bindingSize wide) n (length-binding-row wide bindings s) p)

@@ -11,11 +11,11 @@ use lib.ListN.{set, replicate}
 use Rattle.words.specs.Splice.{Put}
 use Rattle.reflection.specs.declared.CBufferDef.{CBufferDef as BufferRecord}
 use Rattle.reflection.specs.Records.{bufferAt}
+use Rattle.reflection.specs.Limits.{typeRoom, bufferRoom, variableRoom}
 use Rattle.writing.specs.Step.{paddingAt}
 use Rattle.writing.specs.Records.{variableSize}
 use Rattle.placing.specs.Bytes.{joinedBytes}
 use Rattle.placing.specs.Scratch.{buffersStart}
-use Rattle.type_placing.specs.Room.{nodeLimit}
 use Rattle.table_placing.specs.declared.Reached.{Reached}
 use Rattle.table_placing.specs.Held.{rootAt, countAt, firstVariable}
 use Rattle.table_placing.specs.Offsets.{rowsFrom, variableRow}
@@ -34,10 +34,10 @@ module _ (buffers types : List ℕ) (i at : ℕ) {j k n roots count : ℕ} {s : 
   pub last-variable : j + count ≡ firstVariable buffers (i + 1)
   last-variable = (λ z. first z + counted z) ∙ first-next buffers i
 
-  pub few-variables : j + count ≤ 2048
+  pub few-variables : j + count ≤ variableRoom
   few-variables = omega (arith, last-variable, fit .few-variables)
 
-  pub few-nodes : rootAt types (j + count) ≤ nodeLimit
+  pub few-nodes : rootAt types (j + count) ≤ typeRoom
   few-nodes = omega (arith, ap (rootAt types) last-variable, fit .few-nodes)
 
   pub root-is : k ≡ rootAt types j
@@ -59,7 +59,7 @@ module _ (buffers types : List ℕ) (i at : ℕ) {j k n roots count : ℕ} {s : 
       rooted = within .rooted;
     }
 
-    module _ (variables : List ℕ) {chunk edits : List ℕ} {end : ℕ} {s₁ out₂ out₃ : List ℕ} {r : Reached} {share : Bool} {b : BufferRecord} (few : i < 64) (is : b ≡ bufferAt buffers i) (is-share : share ≡ eqb (b .«cb_type») 0)
+    module _ (variables : List ℕ) {chunk edits : List ℕ} {end : ℕ} {s₁ out₂ out₃ : List ℕ} {r : Reached} {share : Bool} {b : BufferRecord} (few : i < bufferRoom) (is : b ≡ bufferAt buffers i) (is-share : share ≡ eqb (b .«cb_type») 0)
         (placed : VariablesPlaced chunk edits variables types sm5 share j count k n roots (start + 4 * (count * size)) s s₁ out₁ out₂ r)
         (written : Put out₂ start (joinedBytes (rowsFrom (variableRow sm5 variables s₁) j count)) out₃ end) where
       pub section-of : SectionPlaced chunk edits buffers variables types sm5 i k n roots at s (set s₁ (buffersStart + i * 2 + 1) start) out out₃ r

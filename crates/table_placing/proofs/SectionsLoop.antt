@@ -7,6 +7,7 @@ use native.Mathlib.Nat.{add-zero, zero-add, add-suc}
 use native.Mathlib.Omega.{arith}
 use lib.ListN.{length}
 use Rattle.reflection.specs.Decode.{recordsFrom}
+use Rattle.reflection.specs.Limits.{bufferRoom}
 use Rattle.writing.specs.Layout.{placeSections}
 use Rattle.placing.specs.Ran.{textOracle}
 use Rattle.placing.specs.Scratch.{buffersStart, Ready}
@@ -83,7 +84,7 @@ module _ (chunk edits buffers variables types : List ℕ) (sm5 : Bool) (count at
           near = omega (arith, so-far .near, e);
         }
 
-    module _ (within : Within 0 0 0 0 (at₀ + 200000) s₀) (fit : Fit buffers types count) (few : count ≤ 64) (more : i < count) where
+    module _ (within : Within 0 0 0 0 (at₀ + 200000) s₀) (fit : Fit buffers types count) (few : count ≤ bufferRoom) (more : i < count) where
       -- There is room for one more.
       pub sections-within : Within j k n roots (at + 100000) s
       sections-within =

@@ -4,13 +4,14 @@ use mathlib.Core.Path.{_≡_, refl, _∙_}
 use mathlib.Core.Bool.{Bool}
 use mathlib.Core.List.{List, [], _∷_, map}
 use mathlib.Core.Logic.{_⊎_, inl, inr, ⊎-elim}
-use Prim.Native.Nat.{ℕ, _+_, _*_}
+use Prim.Native.Nat.{ℕ, _+_, _*_, _/_}
 use native.Mathlib.Omega.{arith}
 use lib.Dec.{eqb}
 use lib.ListN.{length, replicate, length-map}
 use Rattle.words.specs.Splice.{Put}
 use Rattle.reflection.specs.declared.Text.{Text}
 use Rattle.reflection.specs.Reflection.{CBufferVariable, CBufferDef, ResourceDef, isSm5, isWide}
+use Rattle.reflection.specs.Strides.{bufferStride}
 use Rattle.writing.specs.Step.{Pools, pools, paddingAt}
 use Rattle.writing.specs.Records.{VariableOffsets, Section, rows, variableWords, variableSize, bufferWords, bindingWords, bindingSize, headerWords, headerSize}
 use Rattle.writing.specs.Layout.{zip, placeOuterName, placeInnerName, placeDefault, placeType, placeVariable, placeVariables, placeSection, placeSections, placeOuterNames, placeBufferParts, placeBuffers, placeBody, placeChunk, layout}
@@ -71,18 +72,18 @@ module _ (chunk edits : List ℕ) (sm5 : Bool) where
   -- The buffers: padding, their names and sections from behind the room for their records, and the records into the room.
   pub ran-buffers : (b : CBufferDef Text Text) (bs : List (CBufferDef Text Text)) {at start mid to end : ℕ} {ps ps₁ ps₂ : Pools Text Text} {out out₁ out₂ out₃ out₄ names : List ℕ} {sections : List Section}
       → Put out at (replicate (paddingAt at) 0xab) out₁ start
-      → Ran chunk edits (placeOuterNames (textOracle chunk edits) (map (λ b. b .name) (b ∷ bs))) (start + 4 * (length (b ∷ bs) * 6)) ps out₁ out₂ names mid ps₁
+      → Ran chunk edits (placeOuterNames (textOracle chunk edits) (map (λ b. b .name) (b ∷ bs))) (start + 4 * (length (b ∷ bs) * (bufferStride / 4))) ps out₁ out₂ names mid ps₁
       → Ran chunk edits (placeSections (textOracle chunk edits) sm5 (b ∷ bs)) mid ps₁ out₂ out₃ sections to ps₂
       → Put out₃ start (joinedBytes (rows bufferWords (b ∷ bs) (zip names sections))) out₄ end
       → Ran chunk edits (placeBuffers (textOracle chunk edits) sm5 (b ∷ bs)) at ps out out₄ (start, zip names sections) to ps₂
   unfolding placeBuffers placeBufferParts
   ran-buffers b bs {start = start} {ps = ps} padded named placed written =
       ran-bind chunk edits _ (ran-pad chunk edits padded)
-      (ran-bind chunk edits _ (ran-ahead chunk edits (length (b ∷ bs) * 6) (rows bufferWords (b ∷ bs)) sized (ran-bind chunk edits _ named (ran-bind chunk edits _ placed (ran-return chunk edits _ _ _ _))) written)
+      (ran-bind chunk edits _ (ran-ahead chunk edits (length (b ∷ bs) * (bufferStride / 4)) (rows bufferWords (b ∷ bs)) sized (ran-bind chunk edits _ named (ran-bind chunk edits _ placed (ran-return chunk edits _ _ _ _))) written)
       (ran-return chunk edits _ _ _ _))
     where
-      sized : length (rows bufferWords (b ∷ bs) (placeBufferParts (textOracle chunk edits) sm5 (b ∷ bs) (start + 4 * (length (b ∷ bs) * 6)) ps .result)) ≡ length (b ∷ bs) * 6
-      sized = rows-length bufferWords 6 buffer-words-length (b ∷ bs) _ (buffer-parts-length (textOracle chunk edits) sm5 (b ∷ bs) _ ps)
+      sized : length (rows bufferWords (b ∷ bs) (placeBufferParts (textOracle chunk edits) sm5 (b ∷ bs) (start + 4 * (length (b ∷ bs) * (bufferStride / 4))) ps .result)) ≡ length (b ∷ bs) * (bufferStride / 4)
+      sized = rows-length bufferWords (bufferStride / 4) buffer-words-length (b ∷ bs) _ (buffer-parts-length (textOracle chunk edits) sm5 (b ∷ bs) _ ps)
 
 -- The chunk: the bindings' names from behind the room for the header and the bindings' records, those records into their room, the buffers, the creator, padding,
 -- and the header into its room.

@@ -10,13 +10,13 @@ use lib.ListN.{length, getD}
 use Rattle.reflection.specs.Nodes.{typeLevels}
 use Rattle.reflection.specs.Records.{variableAt}
 use Rattle.reflection.specs.Decode.{recordsFrom, variableFrom}
+use Rattle.reflection.specs.Limits.{typeRoom, variableRoom}
 use Rattle.writing.specs.Layout.{placeVariable, placeVariables}
 use Rattle.placing.specs.Ran.{textOracle}
 use Rattle.placing.specs.Scratch.{variablesStart, buffersStart, Ready}
 use Rattle.placing.proofs.Runs.{ran-long, ran-step}
 use Rattle.type_equality.specs.Trees.{treeAt, typeTree}
 use Rattle.type_equality.proofs.Trees.{tree-up}
-use Rattle.type_placing.specs.Room.{nodeLimit}
 use Rattle.table_placing.specs.declared.Reached.{Reached}
 use Rattle.table_placing.specs.Held.{rootAt, variableHeld}
 use Rattle.table_placing.specs.Offsets.{variableOffsets}
@@ -123,12 +123,12 @@ module _ (chunk edits variables types : List ℕ) (sm5 share : Bool) (j count k�
           near = omega (arith, so-far .near, e);
         }
 
-    module _ (within : Within j k₀ n₀ roots₀ at₀ s₀) (few-nodes : rootAt types (j + count) ≤ nodeLimit) (few : j + count ≤ 2048) (more : i < count) where
+    module _ (within : Within j k₀ n₀ roots₀ at₀ s₀) (few-nodes : rootAt types (j + count) ≤ typeRoom) (few : j + count ≤ variableRoom) (more : i < count) where
       -- There is room for one more.
       pub variables-within : Within (j + i) k n roots at s
       variables-within = within-moved within (so-far .moved) (omega (arith, so-far .near))
 
-      pub variables-fit : treeAt types typeLevels k .next ≤ nodeLimit
+      pub variables-fit : treeAt types typeLevels k .next ≤ typeRoom
       variables-fit =
           omega (
             arith,

@@ -8,6 +8,7 @@ use Rattle.reflection.specs.Reflection.{CBufferVariable, CBufferDef, ResourceDe
 use Rattle.reflection.specs.Nodes.{typeLevels}
 use Rattle.reflection.specs.Records.{bindingAt, bufferAt, variableAt}
 use Rattle.reflection.specs.Decode.{recordsFrom, bindingFrom, variableFrom, bufferFrom, rd11From}
+use Rattle.reflection.specs.Limits.{bindingRoom, bufferRoom, variableRoom, typeRoom}
 use Rattle.type_equality.specs.Trees.{treeAt, typeTree}
 
 -- The node at which the type of variable j begins: after the nodes of the variables before it.
@@ -41,9 +42,9 @@ reflectionHeld h bindings buffers variables types = record {
   constant-buffers = recordsFrom (bufferHeld buffers variables types) 0 (h .«buffer_count»);
 }
 
--- The records are no more than the tables' greatest sizes: 1,024 bindings, 64 buffers, 2,048 variables, 4,096 nodes.
+-- The records are no more than document 01's room.
 pub record Sized (h : Header) (buffers types : List ℕ) : Type 0 where
-  pub few-bindings : h .«binding_count» ≤ 1024
-  pub few-buffers : h .«buffer_count» ≤ 64
-  pub few-variables : firstVariable buffers (h .«buffer_count») ≤ 2048
-  pub few-nodes : rootAt types (firstVariable buffers (h .«buffer_count»)) ≤ 4096
+  pub few-bindings : h .«binding_count» ≤ bindingRoom
+  pub few-buffers : h .«buffer_count» ≤ bufferRoom
+  pub few-variables : firstVariable buffers (h .«buffer_count») ≤ variableRoom
+  pub few-nodes : rootAt types (firstVariable buffers (h .«buffer_count»)) ≤ typeRoom

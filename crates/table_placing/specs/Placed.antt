@@ -1,7 +1,7 @@
 -- What the functions of this crate do: the step that ran, what the scratch then holds, and how far pools and cursor went.
 use mathlib.Core.Path.{_≡_}
 use mathlib.Core.List.{List}
-use Prim.Native.Nat.{ℕ, _+_, _*_, _≤_, _<_}
+use Prim.Native.Nat.{ℕ, _+_, _*_, _-_, _≤_, _<_}
 use lib.ListN.{length, getD}
 use Rattle.reflection.specs.declared.Text.{Text}
 use Rattle.reflection.specs.Nodes.{typeLevels}
@@ -11,14 +11,14 @@ use Rattle.writing.specs.Step.{Pools}
 use Rattle.writing.specs.Layout.{placeOuterNames}
 use Rattle.text_pool.specs.Pool.{entryCount}
 use Rattle.placing.specs.Ran.{Ran, textOracle}
-use Rattle.placing.specs.Scratch.{innerStart, rootTypesStart, variablesStart, scratchEnd, outerPool, typesFrom, poolsIn, Ready}
-use Rattle.placing.specs.Pooling.{farthestOffset}
+use Rattle.placing.specs.Scratch.{innerStart, rootTypesStart, variablesStart, scratchSize, outerPool, typesFrom, poolsIn, Ready}
+use Rattle.placing.specs.Pooling.{farthestOffset, placedLimit}
 use Rattle.placing.specs.InScratch.{outerRoom}
 use Rattle.type_equality.specs.Trees.{typeTree}
 
 -- The pools in the scratch, where `roots` types of variables and n types of members may be shared.
 unfoldable pub poolsAt : List ℕ → List ℕ → ℕ → ℕ → Pools Text Text
-poolsAt types s roots n = poolsIn s (typesFrom (typeTree types typeLevels) rootTypesStart s 0 roots) (typeTree types 64) 0 n
+poolsAt types s roots n = poolsIn s (typesFrom (typeTree types typeLevels) rootTypesStart s 0 roots) (typeTree types (typeLevels - 1)) 0 n
 
 -- The words from one place up to another are what they were, and there are as many words.
 pub record Same (from to : ℕ) (s s′ : List ℕ) : Type 0 where
@@ -37,9 +37,9 @@ storedAt start step s i = getD s (start + i * step) 0
 pub record NamesRoom (n start step at : ℕ) (s : List ℕ) : Type 0 where
   pub stored : variablesStart ≤ start
   pub apart : 1 ≤ step
-  pub inside : start + n * step ≤ scratchEnd
+  pub inside : start + n * step ≤ scratchSize
   pub entries : entryCount (outerPool s) + n ≤ outerRoom
-  pub cursor : at + n * 65540 ≤ farthestOffset
+  pub cursor : at + n * placedLimit ≤ farthestOffset
 
 -- The names of n bindings or buffers were placed, and their offsets stand in the scratch.
 pub record NamesPlaced (chunk edits : List ℕ) (names : ℕ → Text) (n start step at : ℕ) (s s′ out out′ : List ℕ) (to : ℕ) : Type 0 where
@@ -48,4 +48,4 @@ pub record NamesPlaced (chunk edits : List ℕ) (names : ℕ → Text) (n start 
   pub ready : Ready chunk edits s′
   pub same : Same innerStart start s s′
   pub entries : entryCount (outerPool s′) ≤ entryCount (outerPool s) + n
-  pub near : to ≤ at + n * 65540
+  pub near : to ≤ at + n * placedLimit

@@ -5,23 +5,23 @@ use mathlib.Core.List.{List}
 use Prim.Native.Nat.{ℕ, _+_, _*_, _≤_}
 use lib.ListN.{length, getD}
 use Rattle.reflection.specs.Decode.{recordsFrom}
+use Rattle.reflection.specs.Limits.{typeRoom, variableRoom}
 use Rattle.writing.specs.Layout.{placeSection, placeSections, placeBuffers}
 use Rattle.text_pool.specs.Pool.{entryCount}
 use Rattle.placing.specs.declared.Spot.{Spot}
 use Rattle.placing.specs.Ran.{Ran, textOracle}
 use Rattle.placing.specs.Scratch.{buffersStart, outerPool, innerPool, defaultPool, Ready}
 use Rattle.placing.specs.InScratch.{outerRoom}
-use Rattle.type_placing.specs.Room.{nodeLimit}
 use Rattle.table_placing.specs.declared.Reached.{Reached}
 use Rattle.table_placing.specs.Held.{rootAt, countAt, firstVariable, bufferHeld}
 use Rattle.table_placing.specs.Offsets.{bufferName, bufferSection}
 use Rattle.table_placing.specs.Placed.{poolsAt}
 use Rattle.table_placing.specs.Moved.{Moved}
 
--- The first n buffers have at most 2,048 variables, and these at most 4,096 nodes.
+-- There is room for the variables of the first n buffers and for their nodes.
 pub record Fit (buffers types : List ℕ) (n : ℕ) : Type 0 where
-  pub few-variables : firstVariable buffers n ≤ 2048
-  pub few-nodes : rootAt types (firstVariable buffers n) ≤ nodeLimit
+  pub few-variables : firstVariable buffers n ≤ variableRoom
+  pub few-nodes : rootAt types (firstVariable buffers n) ≤ typeRoom
 
 -- The section of buffer i was placed: its variables, whose types begin at node k.
 pub record SectionPlaced (chunk edits buffers variables types : List ℕ) (sm5 : Bool) (i k n roots at : ℕ) (s s′ out out′ : List ℕ) (r : Reached) : Type 0 where
@@ -56,5 +56,5 @@ pub record BuffersPlaced (chunk edits buffers variables types : List ℕ) (sm5 :
       out out′ (r .offset, recordsFrom (λ i. (bufferName s′ i, bufferSection buffers s′ i)) 0 count) (r .at) (poolsAt types s′ roots n)
   pub ready : Ready chunk edits s′
   pub long : length s′ ≡ length s
-  pub names : entryCount (innerPool s′) ≤ nodeLimit * 2
+  pub names : entryCount (innerPool s′) ≤ typeRoom * 2
   pub near : r .at ≤ 3900000000

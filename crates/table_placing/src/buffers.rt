@@ -1,6 +1,8 @@
 // The buffers: their names, the section of each, and their records.
 ghost use mathlib.Core.Path.{_≡_};
+ghost use mathlib.Core.Bool.{true};
 ghost use Prim.Native.Nat.{_+_, _*_, _≤_, _<_};
+ghost use Rattle.reflection.specs.Limits.{bufferRoom};
 ghost use Rattle.writing.specs.Records.{variableSize};
 ghost use Rattle.placing.specs.Scratch.{Ready};
 ghost use Rattle.placing.specs.Pooling.{Short};
@@ -12,19 +14,25 @@ use crate::names::place_outer_names;
 use crate::records::put_buffer_records;
 use crate::records::put_variable_records;
 use crate::variables::place_variables;
+use placing::BUFFERS_START;
 use placing::Spot;
+use reflection::BUFFER_WORDS;
 
-// Where the offsets of buffers begin in the scratch.
-const BUFFERS_START: usize = 94208;
+// How many words a buffer's record takes in the chunk, and a variable's.
+const BUFFER_SIZE: usize = reflection::BUFFER_STRIDE as usize / 4;
 
-// How many words a record of the buffers' table has.
-const BUFFER_WORDS: usize = 7;
+const VARIABLE_SIZE: usize = reflection::VARIABLE_STRIDE as usize / 4;
 
-// How many words a variable's record takes in the chunk.
+const SM5_VARIABLE_SIZE: usize = reflection::SM5_VARIABLE_STRIDE as usize / 4;
+
 fn variable_size(sm5: bool) -> usize
-    ensures { λ r. ⌜ (r ≡ variableSize sm5) × (r ≤ 10) ⌝ }
+    ensures { λ r. ⌜ (r ≡ variableSize sm5) × (r ≤ variableSize true) ⌝ }
 {
-    if sm5 { 10 } else { 6 }
+    if sm5 {
+        SM5_VARIABLE_SIZE
+    } else {
+        VARIABLE_SIZE
+    }
 }
 
 // How many variables buffer i counts.
@@ -57,7 +65,7 @@ fn place_section<'a>(
     requires { ⌜ Within j k n roots (at + 100000) (now s) ⌝ }
     requires { ⌜ (j ≡ firstVariable (now buffers) i) × (k ≡ rootAt (now types) (firstVariable (now buffers) i)) ⌝ }
     requires { ⌜ Fit (now buffers) (now types) (i + 1) ⌝ }
-    requires { ⌜ i < 64 ⌝ }
+    requires { ⌜ i < bufferRoom ⌝ }
     ensures { λ r. ⌜ SectionPlaced (now (chunk .entry)) (now (edits .entry)) (now (buffers .entry)) (now (variables .entry)) (now (types .entry)) sm5 i k n roots at (now (s .entry)) (now (s .exit)) (now (out .entry)) (now (out .exit)) r ⌝ }
 {
     let buffer = reflection::buffer_at(buffers, i);
@@ -101,7 +109,7 @@ fn place_sections<'a>(
     requires { ⌜ Ready (now chunk) (now edits) (now s) ⌝ }
     requires { ⌜ Within 0 0 0 0 (at + 200000) (now s) ⌝ }
     requires { ⌜ Fit (now buffers) (now types) count ⌝ }
-    requires { ⌜ count ≤ 64 ⌝ }
+    requires { ⌜ count ≤ bufferRoom ⌝ }
     ensures { λ r. ⌜ SectionsPlaced (now (chunk .entry)) (now (edits .entry)) (now (buffers .entry)) (now (variables .entry)) (now (types .entry)) sm5 count at (now (s .entry)) (now (s .exit)) (now (out .entry)) (now (out .exit)) r ⌝ }
 {
     let mut to = at;
@@ -160,7 +168,7 @@ pub fn place_buffers<'a>(
     requires { ⌜ Ready (now chunk) (now edits) (now s) ⌝ }
     requires { ⌜ Unplaced count at (now s) ⌝ }
     requires { ⌜ Fit (now buffers) (now types) count ⌝ }
-    requires { ⌜ count ≤ 64 ⌝ }
+    requires { ⌜ count ≤ bufferRoom ⌝ }
     ensures { λ r. ⌜ BuffersPlaced (now (chunk .entry)) (now (edits .entry)) (now (buffers .entry)) (now (variables .entry)) (now (types .entry)) sm5 count at (now (s .entry)) (now (s .exit)) (now (out .entry)) (now (out .exit)) r ⌝ }
 {
     if count == 0 {
@@ -177,7 +185,7 @@ pub fn place_buffers<'a>(
         2,
         s,
         out,
-        records + 4 * (count * 6),
+        records + 4 * (count * BUFFER_SIZE),
     );
     let reached = place_sections(
         chunk,

@@ -1,9 +1,10 @@
 // The whole chunk: the bindings and their names, the buffers, the creator, and last the header.
 ghost use mathlib.Core.Path.{_≡_};
+ghost use mathlib.Core.Bool.{true};
 ghost use Prim.Native.Nat.{_+_, _*_, _≤_};
 ghost use lib.ListN.{length};
 ghost use Rattle.writing.specs.Records.{bindingSize, headerSize};
-ghost use Rattle.placing.specs.Scratch.{scratchEnd};
+ghost use Rattle.placing.specs.Scratch.{scratchSize};
 ghost use Rattle.placing.specs.Pooling.{Short};
 ghost use Rattle.table_placing.specs.Held.{Sized};
 ghost use Rattle.table_placing.specs.Chunk.{PoolsBegun, ChunkWritten};
@@ -11,35 +12,46 @@ use crate::buffers::place_buffers;
 use crate::names::place_outer_names;
 use crate::records::put_binding_records;
 use crate::records::put_header;
+use placing::BINDINGS_START;
+use placing::DEFAULTS_START;
+use placing::INNER_START;
+use placing::ROOT_TYPES_START;
+use reflection::BINDING_WORDS;
 use reflection::ResourceDef;
 
-// Where the offsets of bindings' names begin in the scratch.
-const BINDINGS_START: usize = 94336;
-
-// How many words a record of the bindings' table has.
-const BINDING_WORDS: usize = 12;
-
 // How many words a binding's record and the header take in the chunk.
+const BINDING_SIZE: usize = reflection::BINDING_STRIDE as usize / 4;
+
+const WIDE_BINDING_SIZE: usize = reflection::WIDE_BINDING_STRIDE as usize / 4;
+
+const HEADER_SIZE: usize = reflection::HEADER_SIZE as usize / 4;
+
+const RD11_HEADER_SIZE: usize = reflection::RD11_HEADER_SIZE as usize / 4;
+
 fn binding_size(wide: bool) -> usize
-    ensures { λ r. ⌜ (r ≡ bindingSize wide) × (r ≤ 10) ⌝ }
+    ensures { λ r. ⌜ (r ≡ bindingSize wide) × (r ≤ bindingSize true) ⌝ }
 {
-    if wide { 10 } else { 8 }
+    if wide {
+        WIDE_BINDING_SIZE
+    } else {
+        BINDING_SIZE
+    }
 }
 
 fn header_size(sm5: bool) -> usize
-    ensures { λ r. ⌜ (r ≡ headerSize sm5) × (r ≤ 15) ⌝ }
+    ensures { λ r. ⌜ (r ≡ headerSize sm5) × (r ≤ headerSize true) ⌝ }
 {
-    if sm5 { 15 } else { 7 }
+    if sm5 { RD11_HEADER_SIZE } else { HEADER_SIZE }
 }
 
 // Makes the three pools of texts empty.
 fn begin_pools(s: &mut [u32])
-    requires { ⌜ scratchEnd ≤ length (now s) ⌝ }
+    requires { ⌜ scratchSize ≤ length (now s) ⌝ }
     ensures { λ _. ⌜ PoolsBegun (now (s .entry)) (now (s .exit)) ⌝ }
 {
-    text_pool::begin(&mut s[0..8192]);
-    text_pool::begin(&mut s[8192..51200]);
-    text_pool::begin(&mut s[51200..63488]);
+    text_pool::begin(&mut s[0..INNER_START]);
+    text_pool::begin(&mut s[INNER_START..DEFAULTS_START]);
+    text_pool::begin(&mut s[DEFAULTS_START..ROOT_TYPES_START]);
 }
 
 // Writes the canonical form of the reflection that the header and the tables hold; the answer is how many bytes it has. What lies past the output's end is dropped.
@@ -56,7 +68,7 @@ pub fn write_chunk<'a>(
 ) -> usize
     requires { ⌜ Short (now chunk) (now edits) ⌝ }
     requires { ⌜ Sized def (now buffers) (now types) ⌝ }
-    requires { ⌜ scratchEnd ≤ length (now s) ⌝ }
+    requires { ⌜ scratchSize ≤ length (now s) ⌝ }
     ensures { λ r. ⌜ ChunkWritten (now (chunk .entry)) (now (edits .entry)) def (now (bindings .entry)) (now (buffers .entry)) (now (variables .entry)) (now (types .entry)) (now (s .entry)) (now (s .exit)) (now (out .entry)) (now (out .exit)) r ⌝ }
 {
     begin_pools(s);

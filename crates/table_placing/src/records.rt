@@ -5,18 +5,15 @@ ghost use lib.ListN.{length};
 ghost use Rattle.words.specs.Splice.{Put};
 ghost use Rattle.reflection.specs.Reflection.{isSm5};
 ghost use Rattle.reflection.specs.Decode.{rd11From};
+ghost use Rattle.reflection.specs.Limits.{bindingRoom, bufferRoom, variableRoom};
 ghost use Rattle.placing.specs.Bytes.{joinedBytes};
 ghost use Rattle.placing.specs.Pooling.{farthestOffset};
-ghost use Rattle.placing.specs.Scratch.{scratchEnd};
+ghost use Rattle.placing.specs.Scratch.{scratchSize};
 ghost use Rattle.table_placing.specs.Offsets.{rowsFrom, variableRow, bufferRow, bindingRow, headerRow};
+use placing::BINDINGS_START;
+use placing::BUFFERS_START;
+use placing::VARIABLES_START;
 use reflection::ResourceDef;
-
-// Where the offsets of variables, of buffers and of bindings' names begin in the scratch.
-const VARIABLES_START: usize = 88064;
-
-const BUFFERS_START: usize = 94208;
-
-const BINDINGS_START: usize = 94336;
 
 // Writes the record of variable j; the answer is the cursor after it.
 fn put_variable_record(
@@ -27,7 +24,7 @@ fn put_variable_record(
     j: usize,
     sm5: bool,
 ) -> usize
-    requires { ⌜ (scratchEnd ≤ length (now s)) × (j < 2048) ⌝ }
+    requires { ⌜ (scratchSize ≤ length (now s)) × (j < variableRoom) ⌝ }
     requires { ⌜ at ≤ farthestOffset ⌝ }
     ensures { λ r. ⌜ Put (now (out .entry)) at (joinedBytes (variableRow sm5 (now (variables .entry)) (now (s .entry)) j)) (now (out .exit)) r ⌝ }
 {
@@ -62,7 +59,7 @@ pub fn put_variable_records(
     n: usize,
     sm5: bool,
 ) -> usize
-    requires { ⌜ (scratchEnd ≤ length (now s)) × (j + n ≤ 2048) ⌝ }
+    requires { ⌜ (scratchSize ≤ length (now s)) × (j + n ≤ variableRoom) ⌝ }
     requires { ⌜ at + 100000 ≤ farthestOffset ⌝ }
     ensures { λ r. ⌜ Put (now (out .entry)) at (joinedBytes (rowsFrom (variableRow sm5 (now (variables .entry)) (now (s .entry))) j n)) (now (out .exit)) r ⌝ }
 {
@@ -77,7 +74,7 @@ pub fn put_variable_records(
 
 // Writes the record of buffer i.
 fn put_buffer_record(buffers: &[u32], s: &[u32], out: &mut [u8], at: usize, i: usize) -> usize
-    requires { ⌜ (scratchEnd ≤ length (now s)) × (i < 64) ⌝ }
+    requires { ⌜ (scratchSize ≤ length (now s)) × (i < bufferRoom) ⌝ }
     requires { ⌜ at ≤ farthestOffset ⌝ }
     ensures { λ r. ⌜ Put (now (out .entry)) at (joinedBytes (bufferRow (now (buffers .entry)) (now (s .entry)) i)) (now (out .exit)) r ⌝ }
 {
@@ -89,7 +86,7 @@ fn put_buffer_record(buffers: &[u32], s: &[u32], out: &mut [u8], at: usize, i: u
 
 // Writes the records of n buffers.
 pub fn put_buffer_records(buffers: &[u32], s: &[u32], out: &mut [u8], at: usize, n: usize) -> usize
-    requires { ⌜ (scratchEnd ≤ length (now s)) × (n ≤ 64) ⌝ }
+    requires { ⌜ (scratchSize ≤ length (now s)) × (n ≤ bufferRoom) ⌝ }
     requires { ⌜ at + 100000 ≤ farthestOffset ⌝ }
     ensures { λ r. ⌜ Put (now (out .entry)) at (joinedBytes (rowsFrom (bufferRow (now (buffers .entry)) (now (s .entry))) 0 n)) (now (out .exit)) r ⌝ }
 {
@@ -111,7 +108,7 @@ fn put_binding_record(
     i: usize,
     wide: bool,
 ) -> usize
-    requires { ⌜ (scratchEnd ≤ length (now s)) × (i < 1024) ⌝ }
+    requires { ⌜ (scratchSize ≤ length (now s)) × (i < bindingRoom) ⌝ }
     requires { ⌜ at ≤ farthestOffset ⌝ }
     ensures { λ r. ⌜ Put (now (out .entry)) at (joinedBytes (bindingRow wide (now (bindings .entry)) (now (s .entry)) i)) (now (out .exit)) r ⌝ }
 {
@@ -154,7 +151,7 @@ pub fn put_binding_records(
     n: usize,
     wide: bool,
 ) -> usize
-    requires { ⌜ (scratchEnd ≤ length (now s)) × (n ≤ 1024) ⌝ }
+    requires { ⌜ (scratchSize ≤ length (now s)) × (n ≤ bindingRoom) ⌝ }
     requires { ⌜ at + 100000 ≤ farthestOffset ⌝ }
     ensures { λ r. ⌜ Put (now (out .entry)) at (joinedBytes (rowsFrom (bindingRow wide (now (bindings .entry)) (now (s .entry))) 0 n)) (now (out .exit)) r ⌝ }
 {
@@ -177,17 +174,17 @@ pub fn put_header(def: ResourceDef, buffers: u32, creator: u32, sm5: bool, out: 
             def.buffer_count,
             buffers,
             def.binding_count,
-            60,
+            reflection::RD11_HEADER_SIZE,
             def.target_version,
             def.compile_flags,
             creator,
             def.rd11.identifier,
-            60,
-            24,
+            reflection::RD11_HEADER_SIZE,
+            reflection::BUFFER_STRIDE,
             def.rd11.resource_binding_stride,
-            40,
-            36,
-            12,
+            reflection::SM5_VARIABLE_STRIDE,
+            reflection::SM5_TYPE_STRIDE,
+            reflection::MEMBER_STRIDE,
             def.rd11.interface_slot_count,
         ];
         return placing::put_words(out, 0, &row);
@@ -196,7 +193,7 @@ pub fn put_header(def: ResourceDef, buffers: u32, creator: u32, sm5: bool, out: 
         def.buffer_count,
         buffers,
         def.binding_count,
-        28,
+        reflection::HEADER_SIZE,
         def.target_version,
         def.compile_flags,
         creator,

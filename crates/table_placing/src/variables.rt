@@ -2,16 +2,14 @@
 ghost use mathlib.Core.Path.{_≡_};
 ghost use Prim.Native.Nat.{_+_, _≤_, _<_};
 ghost use Rattle.reflection.specs.Nodes.{typeLevels};
+ghost use Rattle.reflection.specs.Limits.{typeRoom, variableRoom};
 ghost use Rattle.placing.specs.Scratch.{Ready};
 ghost use Rattle.placing.specs.Pooling.{Short};
 ghost use Rattle.type_equality.specs.Trees.{treeAt};
-ghost use Rattle.type_placing.specs.Room.{nodeLimit};
 ghost use Rattle.table_placing.specs.Held.{rootAt};
 ghost use Rattle.table_placing.specs.Moved.{Within, VariablePlaced, VariablesPlaced};
 use crate::Reached;
-
-// Where the offsets of variables begin in the scratch.
-const VARIABLES_START: usize = 88064;
+use placing::VARIABLES_START;
 
 // Places variable j, whose type is at node k, and stores its three offsets.
 fn place_variable<'a>(
@@ -32,8 +30,8 @@ fn place_variable<'a>(
     requires { ⌜ Short (now chunk) (now edits) ⌝ }
     requires { ⌜ Ready (now chunk) (now edits) (now s) ⌝ }
     requires { ⌜ Within j k n roots at (now s) ⌝ }
-    requires { ⌜ treeAt (now types) typeLevels k .next ≤ nodeLimit ⌝ }
-    requires { ⌜ j < 2048 ⌝ }
+    requires { ⌜ treeAt (now types) typeLevels k .next ≤ typeRoom ⌝ }
+    requires { ⌜ j < variableRoom ⌝ }
     ensures { λ r. ⌜ VariablePlaced (now (chunk .entry)) (now (edits .entry)) (now (variables .entry)) (now (types .entry)) sm5 share j k n roots at (now (s .entry)) (now (s .exit)) (now (out .entry)) (now (out .exit)) r ⌝ }
 {
     let variable = reflection::variable_at(variables, j);
@@ -92,7 +90,7 @@ pub fn place_variables<'a>(
     requires { ⌜ Ready (now chunk) (now edits) (now s) ⌝ }
     requires { ⌜ Within j k n roots at (now s) ⌝ }
     requires { ⌜ k ≡ rootAt (now types) j ⌝ }
-    requires { ⌜ (rootAt (now types) (j + count) ≤ nodeLimit) × (j + count ≤ 2048) ⌝ }
+    requires { ⌜ (rootAt (now types) (j + count) ≤ typeRoom) × (j + count ≤ variableRoom) ⌝ }
     ensures { λ r. ⌜ VariablesPlaced (now (chunk .entry)) (now (edits .entry)) (now (variables .entry)) (now (types .entry)) sm5 share j count k n roots at (now (s .entry)) (now (s .exit)) (now (out .entry)) (now (out .exit)) r ⌝ }
 {
     let mut to = at;

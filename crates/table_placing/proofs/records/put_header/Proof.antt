@@ -1,4 +1,4 @@
--- `put_header` meets its contract: the array that it fills is the header's row, of 7 words or 15.
+-- `put_header` meets its contract: the array that it fills is the header's row, with the RD11 words or without.
 use mathlib.Core.Bool.{true, false}
 use Rattle.writing.specs.Records.{rd11Words}
 use Rattle.table_placing.proofs.RowWords.{put-header-row}
