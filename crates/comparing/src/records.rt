@@ -6,14 +6,13 @@ ghost use Rattle.reflection.specs.Nodes.{typeLevels};
 ghost use Rattle.reflection.specs.Decode.{bindingFrom, variableFrom};
 ghost use Rattle.writing.specs.Same.{sameBinding, sameVariable};
 ghost use Rattle.type_equality.specs.Same.{sameName};
-ghost use Rattle.type_equality.specs.Trees.{typeTree};
+ghost use Rattle.type_equality.specs.Trees.{farthestNode, typeTree};
 ghost use Rattle.comparing.specs.Fields.{sameFields, headerNumbers};
 use reflection::CBufferDef;
 use reflection::CBufferVariable;
 use reflection::ResourceBinding;
 use reflection::ResourceDef;
-
-const TYPE_LEVELS: usize = 65;
+use reflection::TYPE_LEVELS;
 
 // Whether two lists of words are equal.
 pub fn same_words(a: &[u32], b: &[u32]) -> bool
@@ -80,7 +79,7 @@ pub fn same_variable<'a>(
     others: &[u32],
     j: usize,
 ) -> bool
-    requires { ⌜ (i ≤ 0x1000_0000_0000_0000) × (j ≤ 0x1000_0000_0000_0000) ⌝ }
+    requires { ⌜ (i ≤ farthestNode) × (j ≤ farthestNode) ⌝ }
     ensures { λ r. ⌜ r ≡ sameVariable (sameName (now (chunk .entry)) (now (edits .entry))) (sameName (now (chunk .entry)) (now (edits .entry)))
         (variableFrom x (typeTree (now (types .entry)) typeLevels i)) (variableFrom y (typeTree (now (others .entry)) typeLevels j)) ⌝ }
 {

@@ -2,6 +2,7 @@
 ghost use mathlib.Core.Path.{_≡_};
 ghost use Prim.Native.Nat.{_+_, _≤_};
 ghost use Rattle.reflection.specs.Decode.{recordsFrom};
+ghost use Rattle.reflection.specs.Limits.{variableRoom, typeRoom};
 ghost use Rattle.writing.specs.Same.{sameList, sameBinding, sameBuffer, sameDef};
 ghost use Rattle.type_equality.specs.Same.{sameName};
 ghost use Rattle.table_placing.specs.Held.{rootAt, firstVariable, bufferHeld, reflectionHeld, Sized};
@@ -13,8 +14,7 @@ use crate::records::same_fields;
 use crate::records::same_numbers;
 use crate::records::same_variable;
 use reflection::ResourceDef;
-
-const TYPE_LEVELS: usize = 65;
+use reflection::TYPE_LEVELS;
 
 // Whether the first bindings of two tables are equal.
 fn same_bindings<'a>(
@@ -53,7 +53,7 @@ fn same_variables<'a>(
     other_root: usize,
 ) -> ComparedVariables
     requires { ⌜ (root ≡ rootAt (now types) first) × («other_root» ≡ rootAt (now «other_types») first) ⌝ }
-    requires { ⌜ (first + count ≤ 2048) × ((rootAt (now types) (first + count) ≤ 4096) × (rootAt (now «other_types») (first + count) ≤ 4096)) ⌝ }
+    requires { ⌜ (first + count ≤ variableRoom) × ((rootAt (now types) (first + count) ≤ typeRoom) × (rootAt (now «other_types») (first + count) ≤ typeRoom)) ⌝ }
     ensures { λ r. ⌜ VariablesCompared (sameName (now (chunk .entry)) (now (edits .entry))) (now (variables .entry)) (now (types .entry)) (now («other_variables» .entry)) (now («other_types» .entry)) first count r ⌝ }
 {
     let mut i = 0;
@@ -92,8 +92,8 @@ fn same_buffers<'a>(
     other_types: &[u32],
     count: usize,
 ) -> bool
-    requires { ⌜ (firstVariable (now buffers) count ≤ 2048) × (firstVariable (now «other_buffers») count ≤ 2048) ⌝ }
-    requires { ⌜ (rootAt (now types) (firstVariable (now buffers) count) ≤ 4096) × (rootAt (now «other_types») (firstVariable (now «other_buffers») count) ≤ 4096) ⌝ }
+    requires { ⌜ (firstVariable (now buffers) count ≤ variableRoom) × (firstVariable (now «other_buffers») count ≤ variableRoom) ⌝ }
+    requires { ⌜ (rootAt (now types) (firstVariable (now buffers) count) ≤ typeRoom) × (rootAt (now «other_types») (firstVariable (now «other_buffers») count) ≤ typeRoom) ⌝ }
     ensures { λ r. ⌜ r ≡ sameList (sameBuffer (sameName (now (chunk .entry)) (now (edits .entry))) (sameName (now (chunk .entry)) (now (edits .entry))))
         (recordsFrom (bufferHeld (now (buffers .entry)) (now (variables .entry)) (now (types .entry))) 0 count)
         (recordsFrom (bufferHeld (now («other_buffers» .entry)) (now («other_variables» .entry)) (now («other_types» .entry))) 0 count) ⌝ }

@@ -5,6 +5,7 @@ use native.Mathlib.Omega.{arith}
 use borrow.Author.Tests.{not-true, not-false}
 use Rattle.reflection.specs.declared.CBufferDef.{CBufferDef as BufferRecord}
 use Rattle.reflection.specs.Decode.{recordsFrom}
+use Rattle.reflection.specs.Limits.{variableRoom}
 use Rattle.writing.specs.Same.{sameList, sameBuffer}
 use Rattle.type_equality.specs.Same.{sameName}
 use Rattle.table_placing.specs.Held.{rootAt, countAt, firstVariable, bufferHeld}
@@ -81,7 +82,7 @@ same-variables-requires c κs =
     let pre-at = c .before .before .before .before .before .before .before .before .before .before .before .before .before .before .before .before .before .before .pre in
     let own-first : loop-at .first + buffer-at-at .result .«variable_count» ≡ firstVariable (args-at .buffers .now) (loop-at .i + 1) = (λ z. loop-at .inv .1 .0 z + buffer-at-at .ensures z .«variable_count») ∙ sym (first-next (args-at .buffers .now) (loop-at .i)) in
     let other-first : loop-at .first + buffer-at-at .result .«variable_count» ≡ firstVariable (args-at .other-buffers .now) (loop-at .i + 1) = (λ z. loop-at .inv .1 .1 .0 z + (if2-at .left ∙ ap (λ (b : BufferRecord). b .«variable_count») (buffer-at2-at .ensures)) z) ∙ sym (first-next (args-at .other-buffers .now) (loop-at .i)) in
-    let few : loop-at .first + buffer-at-at .result .«variable_count» ≤ 2048 = omega (arith, pre-at .0 .0, own-first, first-below (args-at .buffers .now) (loop-at .i + 1) (args-at .count) (omega (arith, loop-test-at .taken))) in
+    let few : loop-at .first + buffer-at-at .result .«variable_count» ≤ variableRoom = omega (arith, pre-at .0 .0, own-first, first-below (args-at .buffers .now) (loop-at .i + 1) (args-at .count) (omega (arith, loop-test-at .taken))) in
     ((loop-at .inv .1 .1 .1 .0, loop-at .inv .1 .1 .1 .1 .0), (few, (omega (arith, pre-at .1 .0, ap (rootAt (args-at .types .now)) own-first, root-below (args-at .types .now) (firstVariable (args-at .buffers .now) (loop-at .i + 1)) (firstVariable (args-at .buffers .now) (args-at .count)) (first-below (args-at .buffers .now) (loop-at .i + 1) (args-at .count) (omega (arith, loop-test-at .taken)))), omega (arith, pre-at .1 .1, ap (rootAt (args-at .other-types .now)) other-first, root-below (args-at .other-types .now) (firstVariable (args-at .other-buffers .now) (loop-at .i + 1)) (firstVariable (args-at .other-buffers .now) (args-at .count)) (first-below (args-at .other-buffers .now) (loop-at .i + 1) (args-at .count) (omega (arith, loop-test-at .taken)))))))
 
 returns-3 : tie.Need-returns-3 Inv-loop μ-loop
@@ -110,7 +111,7 @@ add-first c =
     let pre-at = c .before .before .before .before .before .before .before .before .before .before .before .before .before .before .before .before .before .before .before .before .before .pre in
     let own-first : loop-at .first + buffer-at-at .result .«variable_count» ≡ firstVariable (args-at .buffers .now) (loop-at .i + 1) = (λ z. loop-at .inv .1 .0 z + buffer-at-at .ensures z .«variable_count») ∙ sym (first-next (args-at .buffers .now) (loop-at .i)) in
     let other-first : loop-at .first + buffer-at-at .result .«variable_count» ≡ firstVariable (args-at .other-buffers .now) (loop-at .i + 1) = (λ z. loop-at .inv .1 .1 .0 z + (if2-at .left ∙ ap (λ (b : BufferRecord). b .«variable_count») (buffer-at2-at .ensures)) z) ∙ sym (first-next (args-at .other-buffers .now) (loop-at .i)) in
-    let few : loop-at .first + buffer-at-at .result .«variable_count» ≤ 2048 = omega (arith, pre-at .0 .0, own-first, first-below (args-at .buffers .now) (loop-at .i + 1) (args-at .count) (omega (arith, loop-test-at .taken))) in
+    let few : loop-at .first + buffer-at-at .result .«variable_count» ≤ variableRoom = omega (arith, pre-at .0 .0, own-first, first-below (args-at .buffers .now) (loop-at .i + 1) (args-at .count) (omega (arith, loop-test-at .taken))) in
     omega (arith, few)
 
 add-i : tie.Need-add-i Inv-loop μ-loop
