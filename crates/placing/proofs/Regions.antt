@@ -11,7 +11,7 @@ use lib.ListN.{length, getD, take, drop, length-append, length-drop, List·getD-
 use lib.Seq.{ext-getD, getD-take, getD-drop, getD-append-add, length-take-le, take-at, drop-at}
 use Rattle.reflection.specs.declared.Text.{Text}
 use Rattle.reflection.specs.Reflection.{TypeDesc}
-use Rattle.placing.specs.Scratch.{region, typesFrom}
+use Rattle.placing.specs.Scratch.{sharedWidth, region, typesFrom}
 use Rattle.placing.specs.InScratch.{Kept}
 
 -- how long a region is, and the words in it
@@ -46,12 +46,12 @@ region-agree from to s s′ long fits same = by-order (ltb to from) refl
 
 -- entries of types whose words are what they were
 pub types-agree : (tree : ℕ → TypeDesc Text) (start : ℕ) (s s′ : List ℕ) (base n : ℕ)
-    → ((i : ℕ) → start + base * 2 ≤ i → i < start + (base + n) * 2 → getD s′ i 0 ≡ getD s i 0) → typesFrom tree start s′ base n ≡ typesFrom tree start s base n
+    → ((i : ℕ) → start + base * sharedWidth ≤ i → i < start + (base + n) * sharedWidth → getD s′ i 0 ≡ getD s i 0) → typesFrom tree start s′ base n ≡ typesFrom tree start s base n
 unfolding typesFrom
 types-agree tree start s s′ base zero same = refl
 types-agree tree start s s′ base (suc n) same =
-    let node = same (start + (base + n) * 2) (omega arith) (omega arith) in
-    let offset = same (start + (base + n) * 2 + 1) (omega arith) (omega arith) in
+    let node = same (start + (base + n) * sharedWidth) (omega arith) (omega arith) in
+    let offset = same (start + (base + n) * sharedWidth + 1) (omega arith) (omega arith) in
     let rest = types-agree tree start s s′ base n (λ i low high. same i low (omega arith)) in
     λ j. (tree (node j), offset j) ∷ rest j
 
@@ -73,7 +73,7 @@ module _ {from to : ℕ} {s s′ : List ℕ} (kept : Kept from to s s′) where
   pub region-kept-after : (a b : ℕ) → to ≤ a → b ≤ length s → region a b s′ ≡ region a b s
   region-kept-after a b h fits = region-agree a b s s′ (kept .long) fits (λ i low high. kept .after i (omega arith))
 
-  pub types-kept-before : (tree : ℕ → TypeDesc Text) (start base n : ℕ) → start + (base + n) * 2 ≤ from → typesFrom tree start s′ base n ≡ typesFrom tree start s base n
+  pub types-kept-before : (tree : ℕ → TypeDesc Text) (start base n : ℕ) → start + (base + n) * sharedWidth ≤ from → typesFrom tree start s′ base n ≡ typesFrom tree start s base n
   types-kept-before tree start base n h = types-agree tree start s s′ base n (λ i low high. kept .before i (omega arith))
 
   pub types-kept-after : (tree : ℕ → TypeDesc Text) (start base n : ℕ) → to ≤ start → typesFrom tree start s′ base n ≡ typesFrom tree start s base n

@@ -10,7 +10,7 @@ use Rattle.reflection.specs.Reflection.{TypeDesc}
 use Rattle.writing.specs.Step.{pools}
 use Rattle.text_pool.specs.Pool.{Indexed, entries}
 use Rattle.placing.specs.Pooling.{withOuterNames, withInnerNames, withDefaults}
-use Rattle.placing.specs.Scratch.{outerPool, innerPool, defaultPool, innerStart, defaultsStart, rootTypesStart, memberTypesStart, scratchSize, typesFrom, poolsIn, Ready}
+use Rattle.placing.specs.Scratch.{sharedWidth, outerPool, innerPool, defaultPool, innerStart, defaultsStart, rootTypesStart, memberTypesStart, scratchSize, typesFrom, poolsIn, Ready}
 use Rattle.placing.specs.InScratch.{Kept}
 use Rattle.placing.proofs.Regions.{region-kept-before, region-kept-after, types-kept-before, types-kept-after}
 
@@ -128,6 +128,6 @@ module _ {chunk edits s s′ : List ℕ} (ready : Ready chunk edits s) where
         (defaults-kept-before kept (ready .long) behind) members
 
     -- entries of types that lie before what changed
-    pub pools-kept-before : (types : List (TypeDesc Text × ℕ)) (tree : ℕ → TypeDesc Text) (base n : ℕ) → memberTypesStart + (base + n) * 2 ≤ from
+    pub pools-kept-before : (types : List (TypeDesc Text × ℕ)) (tree : ℕ → TypeDesc Text) (base n : ℕ) → memberTypesStart + (base + n) * sharedWidth ≤ from
         → poolsIn s′ types tree base n ≡ poolsIn s types tree base n
     pools-kept-before types tree base n h = pools-kept types tree base n (types-kept-before kept tree memberTypesStart base n h)

@@ -21,13 +21,17 @@ use text_pool::Pooled;
 mod scratch;
 
 pub use scratch::BINDINGS_START;
+pub use scratch::BUFFER_OFFSETS;
 pub use scratch::BUFFERS_START;
 pub use scratch::DEFAULTS_START;
 pub use scratch::INNER_START;
 pub use scratch::MEMBER_TYPES_START;
+pub use scratch::MEMBER_WORDS;
 pub use scratch::RECORDS_START;
 pub use scratch::ROOT_TYPES_START;
 pub use scratch::SCRATCH_WORDS;
+pub use scratch::SHARED_WORDS;
+pub use scratch::VARIABLE_OFFSETS;
 pub use scratch::VARIABLES_START;
 
 // Where something was placed, and the cursor after it.

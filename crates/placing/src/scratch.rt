@@ -11,24 +11,31 @@ const INNER_SIZE: usize = 43008;
 
 const DEFAULTS_SIZE: usize = 12288;
 
+// The words of an entry for a type that may be shared, of a member's record, and of the offsets of a variable and of a buffer.
+pub const SHARED_WORDS: usize = 2;
+
+pub const MEMBER_WORDS: usize = reflection::MEMBER_STRIDE as usize / 4;
+
+pub const VARIABLE_OFFSETS: usize = 3;
+
+pub const BUFFER_OFFSETS: usize = 2;
+
+// Where each region begins.
 pub const INNER_START: usize = OUTER_SIZE;
 
 pub const DEFAULTS_START: usize = INNER_START + INNER_SIZE;
 
-// Types that may be shared, of variables and of members: an entry of two words each.
 pub const ROOT_TYPES_START: usize = DEFAULTS_START + DEFAULTS_SIZE;
 
-pub const MEMBER_TYPES_START: usize = ROOT_TYPES_START + VARIABLE_ROOM * 2;
+pub const MEMBER_TYPES_START: usize = ROOT_TYPES_START + VARIABLE_ROOM * SHARED_WORDS;
 
-// The words of members' records, three each.
-pub const RECORDS_START: usize = MEMBER_TYPES_START + TYPE_ROOM * 2;
+pub const RECORDS_START: usize = MEMBER_TYPES_START + TYPE_ROOM * SHARED_WORDS;
 
-// Offsets: three of a variable, two of a buffer, one of a binding.
-pub const VARIABLES_START: usize = RECORDS_START + TYPE_ROOM * 3;
+pub const VARIABLES_START: usize = RECORDS_START + TYPE_ROOM * MEMBER_WORDS;
 
-pub const BUFFERS_START: usize = VARIABLES_START + VARIABLE_ROOM * 3;
+pub const BUFFERS_START: usize = VARIABLES_START + VARIABLE_ROOM * VARIABLE_OFFSETS;
 
-pub const BINDINGS_START: usize = BUFFERS_START + BUFFER_ROOM * 2;
+pub const BINDINGS_START: usize = BUFFERS_START + BUFFER_ROOM * BUFFER_OFFSETS;
 
-// How many words the scratch has.
+// How many words the scratch has. The last region has a word for each binding.
 pub const SCRATCH_WORDS: usize = BINDINGS_START + BINDING_ROOM;

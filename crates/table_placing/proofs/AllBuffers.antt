@@ -18,7 +18,7 @@ use Rattle.writing.specs.Layout.{zip, placeOuterNames, placeSections, placeBuff
 use Rattle.text_pool.specs.Pool.{entryCount}
 use Rattle.placing.specs.Ran.{Ran, textOracle}
 use Rattle.placing.specs.Bytes.{joinedBytes}
-use Rattle.placing.specs.Scratch.{buffersStart, Ready}
+use Rattle.placing.specs.Scratch.{bufferOffsetsWidth, buffersStart, Ready}
 use Rattle.placing.proofs.Runs.{ran-like, ran-step}
 use Rattle.table_placing.specs.declared.Reached.{Reached}
 use Rattle.table_placing.specs.Held.{countAt, firstVariable, variableHeld, bufferHeld}
@@ -60,7 +60,7 @@ some-buffers chunk edits sm5 held (suc m) some padded named placed written = ran
 module _ {chunk edits : List ℕ} (buffers types : List ℕ) {count at start : ℕ} {s out out₁ : List ℕ} (ready : Ready chunk edits s) (unplaced : Unplaced count at s) (fit : Fit buffers types count) (few : count ≤ bufferRoom)
     (padded : Put out at (replicate (paddingAt at) 0xab) out₁ start) where
   -- There is room for the names, and then for the sections.
-  pub buffer-names-room : NamesRoom count buffersStart 2 (start + 4 * (count * (bufferStride / 4))) s
+  pub buffer-names-room : NamesRoom count buffersStart bufferOffsetsWidth (start + 4 * (count * (bufferStride / 4))) s
   buffer-names-room = record {
     stored = omega arith;
     apart = omega arith;
@@ -69,7 +69,7 @@ module _ {chunk edits : List ℕ} (buffers types : List ℕ) {count at start : �
     cursor = omega (arith, unplaced .cursor, padding-near padded, few);
   }
 
-  module _ {s₁ out₂ : List ℕ} {at₂ : ℕ} (named : NamesPlaced chunk edits (nameAt bufferWidth buffers) count buffersStart 2 (start + 4 * (count * (bufferStride / 4))) s s₁ out₁ out₂ at₂) where
+  module _ {s₁ out₂ : List ℕ} {at₂ : ℕ} (named : NamesPlaced chunk edits (nameAt bufferWidth buffers) count buffersStart bufferOffsetsWidth (start + 4 * (count * (bufferStride / 4))) s s₁ out₁ out₂ at₂) where
     pub sections-room : Within 0 0 0 0 (at₂ + 200000) s₁
     sections-room = record {
       cursor = omega (arith, unplaced .cursor, padding-near padded, few, named .near);
@@ -106,12 +106,12 @@ module _ {chunk edits : List ℕ} (buffers types : List ℕ) {count at start : �
       unfolding nameAt bufferHeld bufferFrom bufferAt
       names-are = sym (map-records (λ (b : CBufferDef Text Text). b .name) held 0 count)
 
-      name-is : (i : ℕ) → storedAt buffersStart 2 s₁ i ≡ bufferName s₁ i
+      name-is : (i : ℕ) → storedAt buffersStart bufferOffsetsWidth s₁ i ≡ bufferName s₁ i
       unfolding storedAt bufferName
       name-is i = refl
 
-      stored : recordsFrom (storedAt buffersStart 2 s₁) 0 count ≡ recordsFrom (bufferName s₂) 0 count
-      stored = same-records (storedAt buffersStart 2 s₁) (bufferName s₂) 0 count (λ i low high. name-is i ∙ sym (placed .names-kept i))
+      stored : recordsFrom (storedAt buffersStart bufferOffsetsWidth s₁) 0 count ≡ recordsFrom (bufferName s₂) 0 count
+      stored = same-records (storedAt buffersStart bufferOffsetsWidth s₁) (bufferName s₂) 0 count (λ i low high. name-is i ∙ sym (placed .names-kept i))
 
       named-ran : Ran chunk edits (placeOuterNames (textOracle chunk edits) (map (λ b. b .name) bs)) (start + 4 * (length bs * (bufferStride / 4))) (poolsAt types s 0 0) out₁ out₂ (recordsFrom (bufferName s₂) 0 count) at₂ (poolsAt types s₁ 0 0)
       named-ran =

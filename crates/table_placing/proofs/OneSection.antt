@@ -22,7 +22,7 @@ use Rattle.writing.specs.Layout.{placeVariables, placeSection}
 use Rattle.text_pool.specs.Pool.{entryCount}
 use Rattle.placing.specs.Ran.{Ran, textOracle}
 use Rattle.placing.specs.Bytes.{joinedBytes}
-use Rattle.placing.specs.Scratch.{variablesStart, buffersStart}
+use Rattle.placing.specs.Scratch.{variableOffsetsWidth, bufferOffsetsWidth, variablesStart, buffersStart}
 use Rattle.placing.specs.InScratch.{Kept}
 use Rattle.placing.proofs.Stores.{padding-short}
 use Rattle.placing.proofs.Runs.{ran-like, ran-step}
@@ -63,23 +63,23 @@ module _ {chunk edits : List ℕ} (buffers variables types : List ℕ) {sm5 : Bo
   count = countAt buffers i
 
   abbrev s₂ : List ℕ
-  s₂ = set s₁ (buffersStart + i * 2 + 1) start
+  s₂ = set s₁ (buffersStart + i * bufferOffsetsWidth + 1) start
 
-  kept : Kept (buffersStart + i * 2 + 1) (buffersStart + i * 2 + 1 + 1) s₁ s₂
-  kept = kept-set s₁ (buffersStart + i * 2 + 1) start
+  kept : Kept (buffersStart + i * bufferOffsetsWidth + 1) (buffersStart + i * bufferOffsetsWidth + 1 + 1) s₁ s₂
+  kept = kept-set s₁ (buffersStart + i * bufferOffsetsWidth + 1) start
 
   offsets-same : (x : ℕ) → j ≤ x → x < j + count → variableOffsets s₁ x ≡ variableOffsets s₂ x
   unfolding variableOffsets
   offsets-same x low high =
-      let name = sym (kept .before (variablesStart + x * 3) (omega (arith, few-variables, high))) in
-      let type = sym (kept .before (variablesStart + x * 3 + 1) (omega (arith, few-variables, high))) in
-      let default = sym (kept .before (variablesStart + x * 3 + 2) (omega (arith, few-variables, high))) in
+      let name = sym (kept .before (variablesStart + x * variableOffsetsWidth) (omega (arith, few-variables, high))) in
+      let type = sym (kept .before (variablesStart + x * variableOffsetsWidth + 1) (omega (arith, few-variables, high))) in
+      let default = sym (kept .before (variablesStart + x * variableOffsetsWidth + 2) (omega (arith, few-variables, high))) in
       λ z. record { name = name z; type = type z; default = default z }
 
   stored : record { start = start; offsets = recordsFrom (variableOffsets s₁) j count } ≡ bufferSection buffers s₂ i
   unfolding bufferSection sectionStart
   stored =
-      let begins = sym (getD-set-same s₁ (buffersStart + i * 2 + 1) start 0 (omega (arith, few, placed .moved .ready .long))) in
+      let begins = sym (getD-set-same s₁ (buffersStart + i * bufferOffsetsWidth + 1) start 0 (omega (arith, few, placed .moved .ready .long))) in
       let same = same-records (variableOffsets s₁) (variableOffsets s₂) j count offsets-same in
       λ z. record { start = begins z; offsets = same z }
 
@@ -129,5 +129,5 @@ module _ {chunk edits : List ℕ} (buffers variables types : List ℕ) {sm5 : Bo
     near = omega (arith, placed .near, from, padding-near padded, size-near sm5 (countAt buffers i));
   }
     where
-      kept-other : (x : ℕ) → (x ≡ buffersStart + i * 2 + 1 → ⊥) → getD s₂ x 0 ≡ getD s₁ x 0
-      kept-other x other = getD-set-other s₁ (buffersStart + i * 2 + 1) x start 0 other
+      kept-other : (x : ℕ) → (x ≡ buffersStart + i * bufferOffsetsWidth + 1 → ⊥) → getD s₂ x 0 ≡ getD s₁ x 0
+      kept-other x other = getD-set-other s₁ (buffersStart + i * bufferOffsetsWidth + 1) x start 0 other

@@ -19,7 +19,7 @@ use Rattle.writing.specs.Layout.{placeInnerName, placeDefault, placeType, place
 use Rattle.text_pool.specs.Pool.{entryCount}
 use Rattle.placing.specs.declared.Spot.{Spot}
 use Rattle.placing.specs.Ran.{Ran, textOracle}
-use Rattle.placing.specs.Scratch.{innerStart, defaultsStart, rootTypesStart, recordsStart, variablesStart, scratchSize, innerPool, defaultPool}
+use Rattle.placing.specs.Scratch.{variableOffsetsWidth, innerStart, defaultsStart, rootTypesStart, recordsStart, variablesStart, scratchSize, innerPool, defaultPool}
 use Rattle.placing.specs.InScratch.{innerRoom, defaultRoom, Kept, TextPlaced}
 use Rattle.placing.specs.Pooling.{farthestOffset}
 use Rattle.placing.proofs.ScratchPools.{inner-kept-before, defaults-kept-after, defaults-kept-before, ready-kept}
@@ -64,20 +64,20 @@ module _ {chunk edits : List ℕ} (variables types : List ℕ) {sm5 share : Bool
   offsets = a .offset ∷ t .offset ∷ d .offset ∷ []
 
   abbrev s₄ : List ℕ
-  s₄ = splice s₃ (variablesStart + j * 3) offsets
+  s₄ = splice s₃ (variablesStart + j * variableOffsetsWidth) offsets
 
-  kept : Kept (variablesStart + j * 3) (variablesStart + j * 3 + 3) s₃ s₄
-  kept = kept-splice s₃ (variablesStart + j * 3) offsets
+  kept : Kept (variablesStart + j * variableOffsetsWidth) (variablesStart + j * variableOffsetsWidth + variableOffsetsWidth) s₃ s₄
+  kept = kept-splice s₃ (variablesStart + j * variableOffsetsWidth) offsets
 
-  room : variablesStart + j * 3 + 3 ≤ length s₃
+  room : variablesStart + j * variableOffsetsWidth + variableOffsetsWidth ≤ length s₃
   room = omega (arith, defaulted .ready .long)
 
   stored : record { name = a .offset; type = t .offset; default = d .offset } ≡ variableOffsets s₄ j
   unfolding variableOffsets
   stored =
-      let name = sym (ap (λ (x : ℕ). getD s₄ x 0) (sym (add-zero (variablesStart + j * 3))) ∙ splice-puts s₃ (variablesStart + j * 3) offsets room 0 0 (omega arith)) in
-      let type = sym (splice-puts s₃ (variablesStart + j * 3) offsets room 1 0 (omega arith)) in
-      let default = sym (splice-puts s₃ (variablesStart + j * 3) offsets room 2 0 (omega arith)) in
+      let name = sym (ap (λ (x : ℕ). getD s₄ x 0) (sym (add-zero (variablesStart + j * variableOffsetsWidth))) ∙ splice-puts s₃ (variablesStart + j * variableOffsetsWidth) offsets room 0 0 (omega arith)) in
+      let type = sym (splice-puts s₃ (variablesStart + j * variableOffsetsWidth) offsets room 1 0 (omega arith)) in
+      let default = sym (splice-puts s₃ (variablesStart + j * variableOffsetsWidth) offsets room 2 0 (omega arith)) in
       λ i. record { name = name i; type = type i; default = default i }
 
   bounds : (t .n ≤ typeRoom) × (t .roots ≤ variableRoom)

@@ -15,7 +15,7 @@ use Rattle.reflection.specs.Records.{variableAt, bufferAt, bindingAt}
 use Rattle.reflection.specs.Decode.{bindingFrom, rd11From}
 use Rattle.writing.specs.Records.{wordsIf, bindingWords, rd11Words, headerSize}
 use Rattle.placing.specs.Bytes.{joinedBytes}
-use Rattle.placing.specs.Scratch.{variablesStart, buffersStart, bindingsStart}
+use Rattle.placing.specs.Scratch.{variableOffsetsWidth, bufferOffsetsWidth, variablesStart, buffersStart, bindingsStart}
 use Rattle.table_placing.specs.Offsets.{variableOffsets, bufferName, sectionStart, bindingName, variableRow, bufferRow, bindingRow, headerRow}
 
 abbrev variable-words : Bool → VariableRecord → List ℕ → ℕ → List ℕ
@@ -52,16 +52,16 @@ rd11-is h = go (eqb (majorOf (h .«target_version»)) 4)
 
 module _ {out out′ : List ℕ} {at to : ℕ} where
   pub put-variable-row : (variables s : List ℕ) (j : ℕ) (b : Bool) {sm5 : Bool} {v : VariableRecord} → v ≡ variableAt variables j → sm5 ≡ b
-      → Put out at (joinedBytes (variable-words b v s (variablesStart + j * 3))) out′ to → Put out at (joinedBytes (variableRow sm5 variables s j)) out′ to
+      → Put out at (joinedBytes (variable-words b v s (variablesStart + j * variableOffsetsWidth))) out′ to → Put out at (joinedBytes (variableRow sm5 variables s j)) out′ to
   unfolding variableRow variableOffsets
   put-variable-row variables s j b is e p =
       let e′ = sym e in
-      subst (λ row. Put out at (joinedBytes row) out′ to) (λ i. variable-words (e′ i) (is i) s (variablesStart + j * 3)) p
+      subst (λ row. Put out at (joinedBytes row) out′ to) (λ i. variable-words (e′ i) (is i) s (variablesStart + j * variableOffsetsWidth)) p
 
-  pub put-buffer-row : (buffers s : List ℕ) (i : ℕ) {b : BufferRecord} → b ≡ bufferAt buffers i → Put out at (joinedBytes (buffer-words b s (buffersStart + i * 2))) out′ to
+  pub put-buffer-row : (buffers s : List ℕ) (i : ℕ) {b : BufferRecord} → b ≡ bufferAt buffers i → Put out at (joinedBytes (buffer-words b s (buffersStart + i * bufferOffsetsWidth))) out′ to
       → Put out at (joinedBytes (bufferRow buffers s i)) out′ to
   unfolding bufferRow bufferName sectionStart
-  put-buffer-row buffers s i is p = subst (λ row. Put out at (joinedBytes row) out′ to) (λ z. buffer-words (is z) s (buffersStart + i * 2)) p
+  put-buffer-row buffers s i is p = subst (λ row. Put out at (joinedBytes row) out′ to) (λ z. buffer-words (is z) s (buffersStart + i * bufferOffsetsWidth)) p
 
   pub put-binding-row : (bindings s : List ℕ) (i : ℕ) (b : Bool) {wide : Bool} {x : BindingRecord} → x ≡ bindingAt bindings i → wide ≡ b
       → Put out at (joinedBytes (binding-words b x (getD s (bindingsStart + i) 0))) out′ to → Put out at (joinedBytes (bindingRow wide bindings s i)) out′ to

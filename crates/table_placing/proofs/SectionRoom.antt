@@ -15,7 +15,7 @@ use Rattle.reflection.specs.Limits.{typeRoom, bufferRoom, variableRoom}
 use Rattle.writing.specs.Step.{paddingAt}
 use Rattle.writing.specs.Records.{variableSize}
 use Rattle.placing.specs.Bytes.{joinedBytes}
-use Rattle.placing.specs.Scratch.{buffersStart}
+use Rattle.placing.specs.Scratch.{bufferOffsetsWidth, buffersStart}
 use Rattle.table_placing.specs.declared.Reached.{Reached}
 use Rattle.table_placing.specs.Held.{rootAt, countAt, firstVariable}
 use Rattle.table_placing.specs.Offsets.{rowsFrom, variableRow}
@@ -62,7 +62,7 @@ module _ (buffers types : List ℕ) (i at : ℕ) {j k n roots count : ℕ} {s : 
     module _ (variables : List ℕ) {chunk edits : List ℕ} {end : ℕ} {s₁ out₂ out₃ : List ℕ} {r : Reached} {share : Bool} {b : BufferRecord} (few : i < bufferRoom) (is : b ≡ bufferAt buffers i) (is-share : share ≡ eqb (b .«cb_type») 0)
         (placed : VariablesPlaced chunk edits variables types sm5 share j count k n roots (start + 4 * (count * size)) s s₁ out₁ out₂ r)
         (written : Put out₂ start (joinedBytes (rowsFrom (variableRow sm5 variables s₁) j count)) out₃ end) where
-      pub section-of : SectionPlaced chunk edits buffers variables types sm5 i k n roots at s (set s₁ (buffersStart + i * 2 + 1) start) out out₃ r
+      pub section-of : SectionPlaced chunk edits buffers variables types sm5 i k n roots at s (set s₁ (buffersStart + i * bufferOffsetsWidth + 1) start) out out₃ r
       section-of =
           section-placed buffers variables types i k n roots few (omega (arith, few-variables, first, counted))
           (omega (arith, placed .moved .stacked, within .stacked, placed .next, few-nodes)) (omega (arith, placed .moved .rooted, within .rooted, few-variables))

@@ -10,8 +10,9 @@ use Rattle.reflection.specs.Decode.{recordsFrom}
 use Rattle.reflection.specs.Limits.{bufferRoom}
 use Rattle.writing.specs.Layout.{placeSections}
 use Rattle.placing.specs.Ran.{textOracle}
-use Rattle.placing.specs.Scratch.{buffersStart, Ready}
+use Rattle.placing.specs.Scratch.{bufferOffsetsWidth, buffersStart, Ready}
 use Rattle.placing.proofs.Runs.{ran-long}
+use Rattle.type_placing.specs.Room.{nodeBytes}
 use Rattle.table_placing.specs.declared.Reached.{Reached}
 use Rattle.table_placing.specs.Held.{rootAt, countAt, firstVariable, bufferHeld}
 use Rattle.table_placing.specs.Offsets.{variableOffsets, bufferName, sectionStart, bufferSection}
@@ -51,7 +52,7 @@ pub record SectionsSoFar (chunk edits buffers variables types : List ℕ) (sm5 :
       (recordsFrom (bufferHeld buffers variables types) i (count - i)) at (poolsAt types s roots n) out (recordsFrom (bufferSection buffers s) 0 i)
   pub moved : Moved chunk edits 0 (firstVariable buffers i) 0 k 0 n 0 roots s₀ s
   pub names-kept : (x : ℕ) → bufferName s x ≡ bufferName s₀ x
-  pub near : at ≤ at₀ + i * 4 + k * 200000
+  pub near : at ≤ at₀ + i * 4 + k * nodeBytes
   pub out-long : length out ≡ length out₀
 
 module _ (chunk edits buffers variables types : List ℕ) (sm5 : Bool) (count at₀ : ℕ) (s₀ out₀ : List ℕ) where
@@ -117,11 +118,11 @@ module _ (chunk edits buffers variables types : List ℕ) (sm5 : Bool) (count at
       }
         where
           name-kept : (x : ℕ) → bufferName s₁ x ≡ bufferName s x
-          name-kept x = placed .others (buffersStart + x * 2) (omega arith) (λ e. omega (arith, e))
+          name-kept x = placed .others (buffersStart + x * bufferOffsetsWidth) (omega arith) (λ e. omega (arith, e))
 
           earlier : (x : ℕ) → 0 ≤ x → x < 0 + i → bufferSection buffers s x ≡ bufferSection buffers s₁ x
           earlier x low high =
-              let start = sym (placed .others (buffersStart + x * 2 + 1) (omega arith) (λ e. omega (arith, e, high))) in
+              let start = sym (placed .others (buffersStart + x * bufferOffsetsWidth + 1) (omega arith) (λ e. omega (arith, e, high))) in
               let before : firstVariable buffers x + countAt buffers x ≤ firstVariable buffers i = omega (arith, first-next buffers x, first-below buffers (x + 1) i (omega (arith, high))) in
               let same = same-records (variableOffsets s) (variableOffsets s₁) (firstVariable buffers x) (countAt buffers x) (λ y l h. offsets-kept (placed .moved) y (omega (arith, h, before))) in
               λ z. record { start = start z; offsets = same z }

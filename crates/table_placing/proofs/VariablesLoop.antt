@@ -13,10 +13,11 @@ use Rattle.reflection.specs.Decode.{recordsFrom, variableFrom}
 use Rattle.reflection.specs.Limits.{typeRoom, variableRoom}
 use Rattle.writing.specs.Layout.{placeVariable, placeVariables}
 use Rattle.placing.specs.Ran.{textOracle}
-use Rattle.placing.specs.Scratch.{variablesStart, buffersStart, Ready}
+use Rattle.placing.specs.Scratch.{variableOffsetsWidth, variablesStart, buffersStart, Ready}
 use Rattle.placing.proofs.Runs.{ran-long, ran-step}
 use Rattle.type_equality.specs.Trees.{treeAt, typeTree}
 use Rattle.type_equality.proofs.Trees.{tree-up}
+use Rattle.type_placing.specs.Room.{nodeBytes}
 use Rattle.table_placing.specs.declared.Reached.{Reached}
 use Rattle.table_placing.specs.Held.{rootAt, variableHeld}
 use Rattle.table_placing.specs.Offsets.{variableOffsets}
@@ -65,14 +66,14 @@ moved-then p q = record {
 pub offsets-kept : {chunk edits : List ℕ} {j m k k′ n n′ roots roots′ : ℕ} {s s′ : List ℕ} → Moved chunk edits j m k k′ n n′ roots roots′ s s′ → (x : ℕ) → x < j → variableOffsets s x ≡ variableOffsets s′ x
 unfolding variableOffsets
 offsets-kept p x before =
-    let name = sym (p .earlier (variablesStart + x * 3) (omega arith) (omega arith)) in
-    let type = sym (p .earlier (variablesStart + x * 3 + 1) (omega arith) (omega arith)) in
-    let default = sym (p .earlier (variablesStart + x * 3 + 2) (omega arith) (omega arith)) in
+    let name = sym (p .earlier (variablesStart + x * variableOffsetsWidth) (omega arith) (omega arith)) in
+    let type = sym (p .earlier (variablesStart + x * variableOffsetsWidth + 1) (omega arith) (omega arith)) in
+    let default = sym (p .earlier (variablesStart + x * variableOffsetsWidth + 2) (omega arith) (omega arith)) in
     λ i. record { name = name i; type = type i; default = default i }
 
 -- What was within bounds stays so.
 pub within-moved : {chunk edits : List ℕ} {j m k k′ n n′ roots roots′ at at′ : ℕ} {s s′ : List ℕ} → Within j k n roots at s → Moved chunk edits j m k k′ n n′ roots roots′ s s′
-    → at′ + k * 200000 ≤ at + k′ * 200000 → Within (j + m) k′ n′ roots′ at′ s′
+    → at′ + k * nodeBytes ≤ at + k′ * nodeBytes → Within (j + m) k′ n′ roots′ at′ s′
 within-moved w p near = record {
   cursor = omega (arith, w .cursor, near);
   names = omega (arith, w .names, p .names);
@@ -89,7 +90,7 @@ pub record VariablesSoFar (chunk edits variables types : List ℕ) (sm5 share : 
       (recordsFrom (variableHeld variables types) (j + i) (count - i)) at (poolsAt types s roots n) out (recordsFrom (variableOffsets s) j i)
   pub moved : Moved chunk edits j i k₀ k n₀ n roots₀ roots s₀ s
   pub later : (x : ℕ) → buffersStart ≤ x → getD s x 0 ≡ getD s₀ x 0
-  pub near : at + k₀ * 200000 + i * 1900 ≤ at₀ + k * 200000
+  pub near : at + k₀ * nodeBytes + i * 1900 ≤ at₀ + k * nodeBytes
   pub out-long : length out ≡ length out₀
 
 module _ (chunk edits variables types : List ℕ) (sm5 share : Bool) (j count k₀ n₀ roots₀ at₀ : ℕ) (s₀ out₀ : List ℕ) where

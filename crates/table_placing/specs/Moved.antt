@@ -10,8 +10,9 @@ use Rattle.reflection.specs.Decode.{recordsFrom, variableFrom}
 use Rattle.writing.specs.Layout.{placeVariable, placeVariables}
 use Rattle.text_pool.specs.Pool.{entryCount}
 use Rattle.placing.specs.Ran.{Ran, textOracle}
-use Rattle.placing.specs.Scratch.{variablesStart, buffersStart, innerPool, defaultPool, Ready}
+use Rattle.placing.specs.Scratch.{variableOffsetsWidth, variablesStart, buffersStart, innerPool, defaultPool, Ready}
 use Rattle.type_equality.specs.Trees.{treeAt, typeTree}
+use Rattle.type_placing.specs.Room.{nodeBytes}
 use Rattle.table_placing.specs.declared.Reached.{Reached}
 use Rattle.table_placing.specs.Held.{rootAt, variableHeld}
 use Rattle.table_placing.specs.Offsets.{variableOffsets}
@@ -20,7 +21,7 @@ use Rattle.table_placing.specs.Placed.{poolsAt}
 -- The variables before variable j and the nodes before node k are placed: how far the cursor is, and how many names, defaults, types of members and of variables
 -- the pools have.
 pub record Within (j k n roots at : ℕ) (s : List ℕ) : Type 0 where
-  pub cursor : at ≤ 2900000000 + k * 200000
+  pub cursor : at ≤ 2900000000 + k * nodeBytes
   pub names : entryCount (innerPool s) ≤ k * 2
   pub defaults : entryCount (defaultPool s) ≤ j
   pub stacked : n ≤ k
@@ -30,7 +31,7 @@ pub record Within (j k n roots at : ℕ) (s : List ℕ) : Type 0 where
 pub record Moved (chunk edits : List ℕ) (j m k k′ n n′ roots roots′ : ℕ) (s s′ : List ℕ) : Type 0 where
   pub ready : Ready chunk edits s′
   pub long : length s′ ≡ length s
-  pub earlier : (i : ℕ) → variablesStart ≤ i → i < variablesStart + j * 3 → getD s′ i 0 ≡ getD s i 0
+  pub earlier : (i : ℕ) → variablesStart ≤ i → i < variablesStart + j * variableOffsetsWidth → getD s′ i 0 ≡ getD s i 0
   pub forward : k ≤ k′
   pub names : entryCount (innerPool s′) + k * 2 ≤ entryCount (innerPool s) + k′ * 2
   pub defaults : entryCount (defaultPool s′) ≤ entryCount (defaultPool s) + m
@@ -44,7 +45,7 @@ pub record VariablePlaced (chunk edits variables types : List ℕ) (sm5 share : 
   pub next : r .next ≡ treeAt types typeLevels k .next
   pub moved : Moved chunk edits j 1 k (r .next) n (r .n) roots (r .roots) s s′
   pub later : (i : ℕ) → buffersStart ≤ i → getD s′ i 0 ≡ getD s i 0
-  pub near : r .at + k * 200000 + 1900 ≤ at + r .next * 200000
+  pub near : r .at + k * nodeBytes + 1900 ≤ at + r .next * nodeBytes
 
 -- `count` variables from variable j on were placed.
 pub record VariablesPlaced (chunk edits variables types : List ℕ) (sm5 share : Bool) (j count k n roots at : ℕ) (s s′ out out′ : List ℕ) (r : Reached) : Type 0 where
@@ -53,4 +54,4 @@ pub record VariablesPlaced (chunk edits variables types : List ℕ) (sm5 share :
   pub next : r .next ≡ rootAt types (j + count)
   pub moved : Moved chunk edits j count k (r .next) n (r .n) roots (r .roots) s s′
   pub later : (i : ℕ) → buffersStart ≤ i → getD s′ i 0 ≡ getD s i 0
-  pub near : r .at + k * 200000 + count * 1900 ≤ at + r .next * 200000
+  pub near : r .at + k * nodeBytes + count * 1900 ≤ at + r .next * nodeBytes

@@ -1,5 +1,5 @@
 -- Where names, types, defaults and sections were placed, kept in the scratch until the records that hold the offsets are written, and the words of those
--- records. For variable j three words: its name, type and default. For buffer i two: its name, where its variables' records begin. For binding i its name.
+-- records. For variable j its name, type and default. For buffer i its name and where its variables' records begin. For binding i its name.
 use mathlib.Core.Bool.{Bool}
 use mathlib.Core.List.{List, [], _∷_, _++_}
 use Prim.Native.Nat.{ℕ, zero, suc, _+_, _*_}
@@ -9,21 +9,21 @@ use Rattle.reflection.specs.Reflection.{isSm5}
 use Rattle.reflection.specs.Records.{bindingAt, bufferAt, variableAt}
 use Rattle.reflection.specs.Decode.{recordsFrom, bindingFrom, rd11From}
 use Rattle.writing.specs.Records.{VariableOffsets, Section, wordsIf, bindingWords, rd11Words, headerSize}
-use Rattle.placing.specs.Scratch.{variablesStart, buffersStart, bindingsStart}
+use Rattle.placing.specs.Scratch.{variableOffsetsWidth, bufferOffsetsWidth, variablesStart, buffersStart, bindingsStart}
 use Rattle.table_placing.specs.Held.{firstVariable, countAt}
 
 unfoldable pub variableOffsets : List ℕ → ℕ → VariableOffsets
 variableOffsets s j = record {
-  name = getD s (variablesStart + j * 3) 0;
-  type = getD s (variablesStart + j * 3 + 1) 0;
-  default = getD s (variablesStart + j * 3 + 2) 0;
+  name = getD s (variablesStart + j * variableOffsetsWidth) 0;
+  type = getD s (variablesStart + j * variableOffsetsWidth + 1) 0;
+  default = getD s (variablesStart + j * variableOffsetsWidth + 2) 0;
 }
 
 unfoldable pub bufferName : List ℕ → ℕ → ℕ
-bufferName s i = getD s (buffersStart + i * 2) 0
+bufferName s i = getD s (buffersStart + i * bufferOffsetsWidth) 0
 
 unfoldable pub sectionStart : List ℕ → ℕ → ℕ
-sectionStart s i = getD s (buffersStart + i * 2 + 1) 0
+sectionStart s i = getD s (buffersStart + i * bufferOffsetsWidth + 1) 0
 
 unfoldable pub bufferSection : List ℕ → List ℕ → ℕ → Section
 bufferSection buffers s i = record { start = sectionStart s i; offsets = recordsFrom (variableOffsets s) (firstVariable buffers i) (countAt buffers i) }

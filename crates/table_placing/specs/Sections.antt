@@ -10,8 +10,9 @@ use Rattle.writing.specs.Layout.{placeSection, placeSections, placeBuffers}
 use Rattle.text_pool.specs.Pool.{entryCount}
 use Rattle.placing.specs.declared.Spot.{Spot}
 use Rattle.placing.specs.Ran.{Ran, textOracle}
-use Rattle.placing.specs.Scratch.{buffersStart, outerPool, innerPool, defaultPool, Ready}
+use Rattle.placing.specs.Scratch.{bufferOffsetsWidth, buffersStart, outerPool, innerPool, defaultPool, Ready}
 use Rattle.placing.specs.InScratch.{outerRoom}
+use Rattle.type_placing.specs.Room.{nodeBytes}
 use Rattle.table_placing.specs.declared.Reached.{Reached}
 use Rattle.table_placing.specs.Held.{rootAt, countAt, firstVariable, bufferHeld}
 use Rattle.table_placing.specs.Offsets.{bufferName, bufferSection}
@@ -29,8 +30,8 @@ pub record SectionPlaced (chunk edits buffers variables types : List ℕ) (sm5 :
       out out′ (bufferSection buffers s′ i) (r .at) (poolsAt types s′ (r .roots) (r .n))
   pub next : r .next ≡ rootAt types (firstVariable buffers (i + 1))
   pub moved : Moved chunk edits (firstVariable buffers i) (countAt buffers i) k (r .next) n (r .n) roots (r .roots) s s′
-  pub others : (x : ℕ) → buffersStart ≤ x → (x ≡ buffersStart + i * 2 + 1 → ⊥) → getD s′ x 0 ≡ getD s x 0
-  pub near : r .at + k * 200000 ≤ at + 4 + r .next * 200000
+  pub others : (x : ℕ) → buffersStart ≤ x → (x ≡ buffersStart + i * bufferOffsetsWidth + 1 → ⊥) → getD s′ x 0 ≡ getD s x 0
+  pub near : r .at + k * nodeBytes ≤ at + 4 + r .next * nodeBytes
 
 -- The sections of the first `count` buffers were placed. The offsets of the buffers' names stay.
 pub record SectionsPlaced (chunk edits buffers variables types : List ℕ) (sm5 : Bool) (count at : ℕ) (s s′ out out′ : List ℕ) (r : Reached) : Type 0 where
@@ -39,7 +40,7 @@ pub record SectionsPlaced (chunk edits buffers variables types : List ℕ) (sm5 
   pub next : r .next ≡ rootAt types (firstVariable buffers count)
   pub moved : Moved chunk edits 0 (firstVariable buffers count) 0 (r .next) 0 (r .n) 0 (r .roots) s s′
   pub names-kept : (i : ℕ) → bufferName s′ i ≡ bufferName s i
-  pub near : r .at ≤ at + count * 4 + r .next * 200000
+  pub near : r .at ≤ at + count * 4 + r .next * nodeBytes
 
 -- No inner name and no default is placed yet, and there is room for the names of `count` buffers.
 pub record Unplaced (count at : ℕ) (s : List ℕ) : Type 0 where

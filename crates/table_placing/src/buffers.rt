@@ -14,6 +14,7 @@ use crate::names::place_outer_names;
 use crate::records::put_buffer_records;
 use crate::records::put_variable_records;
 use crate::variables::place_variables;
+use placing::BUFFER_OFFSETS;
 use placing::BUFFERS_START;
 use placing::Spot;
 use reflection::BUFFER_WORDS;
@@ -88,7 +89,7 @@ fn place_section<'a>(
         sm5,
     );
     put_variable_records(variables, &s[..], out, start, j, count, sm5);
-    s[BUFFERS_START + i * 2 + 1] = start as u32;
+    s[BUFFERS_START + i * BUFFER_OFFSETS + 1] = start as u32;
     reached
 }
 
@@ -182,7 +183,7 @@ pub fn place_buffers<'a>(
         BUFFER_WORDS,
         count,
         BUFFERS_START,
-        2,
+        BUFFER_OFFSETS,
         s,
         out,
         records + 4 * (count * BUFFER_SIZE),

@@ -11,7 +11,9 @@ ghost use Rattle.placing.specs.Pooling.{farthestOffset};
 ghost use Rattle.placing.specs.Scratch.{scratchSize};
 ghost use Rattle.table_placing.specs.Offsets.{rowsFrom, variableRow, bufferRow, bindingRow, headerRow};
 use placing::BINDINGS_START;
+use placing::BUFFER_OFFSETS;
 use placing::BUFFERS_START;
+use placing::VARIABLE_OFFSETS;
 use placing::VARIABLES_START;
 use reflection::ResourceDef;
 
@@ -29,7 +31,7 @@ fn put_variable_record(
     ensures { λ r. ⌜ Put (now (out .entry)) at (joinedBytes (variableRow sm5 (now (variables .entry)) (now (s .entry)) j)) (now (out .exit)) r ⌝ }
 {
     let v = reflection::variable_at(variables, j);
-    let k = VARIABLES_START + j * 3;
+    let k = VARIABLES_START + j * VARIABLE_OFFSETS;
     if sm5 {
         let row = [
             s[k],
@@ -79,7 +81,7 @@ fn put_buffer_record(buffers: &[u32], s: &[u32], out: &mut [u8], at: usize, i: u
     ensures { λ r. ⌜ Put (now (out .entry)) at (joinedBytes (bufferRow (now (buffers .entry)) (now (s .entry)) i)) (now (out .exit)) r ⌝ }
 {
     let b = reflection::buffer_at(buffers, i);
-    let k = BUFFERS_START + i * 2;
+    let k = BUFFERS_START + i * BUFFER_OFFSETS;
     let row = [s[k], b.variable_count, s[k + 1], b.size, b.flags, b.cb_type];
     placing::put_words(out, at, &row)
 }

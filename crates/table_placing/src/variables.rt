@@ -9,6 +9,7 @@ ghost use Rattle.type_equality.specs.Trees.{treeAt};
 ghost use Rattle.table_placing.specs.Held.{rootAt};
 ghost use Rattle.table_placing.specs.Moved.{Within, VariablePlaced, VariablesPlaced};
 use crate::Reached;
+use placing::VARIABLE_OFFSETS;
 use placing::VARIABLES_START;
 
 // Places variable j, whose type is at node k, and stores its three offsets.
@@ -60,7 +61,7 @@ fn place_variable<'a>(
         kind.at,
     );
     let offsets = [name_offset, type_offset, default.offset];
-    words::put_words(s, VARIABLES_START + j * 3, &offsets);
+    words::put_words(s, VARIABLES_START + j * VARIABLE_OFFSETS, &offsets);
     Reached {
         at: default.at,
         next: kind.next,

@@ -12,16 +12,16 @@ use Rattle.reflection.specs.Records.{typeAt}
 use Rattle.reflection.specs.Decode.{nodeFrom}
 use Rattle.writing.specs.Step.{find}
 use Rattle.writing.specs.Same.{sameType}
-use Rattle.placing.specs.Scratch.{typesFrom}
+use Rattle.placing.specs.Scratch.{sharedWidth, typesFrom}
 use Rattle.type_equality.specs.Trees.{nodeAt, typeTree}
 use Rattle.type_equality.specs.Same.{sameName}
 use Rattle.type_placing.specs.TypePlaced.{typeOffset, sharedOffset}
 
 module _ (chunk edits types : List ℕ) (levels k : ℕ) (s : List ℕ) (start base : ℕ) where
   -- The newest of n entries, where n is above 0: its place, as the code counts it, and the node there.
-  module _ (n node : ℕ) (some-left : 0 < n) (is-node : node ≡ getD s (start + (base + (n - 1)) * 2) 0) where
+  module _ (n node : ℕ) (some-left : 0 < n) (is-node : node ≡ getD s (start + (base + (n - 1)) * sharedWidth) 0) where
     newest : (n : ℕ) → 0 < n → typesFrom (typeTree types levels) start s base n
-        ≡ (typeTree types levels (getD s (start + (base + (n - 1)) * 2) 0), getD s (start + (base + (n - 1)) * 2 + 1) 0) ∷ typesFrom (typeTree types levels) start s base (n - 1)
+        ≡ (typeTree types levels (getD s (start + (base + (n - 1)) * sharedWidth) 0), getD s (start + (base + (n - 1)) * sharedWidth + 1) 0) ∷ typesFrom (typeTree types levels) start s base (n - 1)
     unfolding typesFrom
     newest zero h = absurd (omega (arith, h))
     newest (suc n) h =
@@ -29,7 +29,7 @@ module _ (chunk edits types : List ℕ) (levels k : ℕ) (s : List ℕ) (start b
         rw less
 
     pub newest-found : sameType (sameName chunk edits) (typeTree types levels k) (typeTree types levels node) ≡ true
-        → typeOffset chunk edits types levels k s start base n ≡ some (getD s (start + (base + (n - 1)) * 2 + 1) 0)
+        → typeOffset chunk edits types levels k s start base n ≡ some (getD s (start + (base + (n - 1)) * sharedWidth + 1) 0)
     unfolding typeOffset find
     newest-found e =
         ap (find (sameType (sameName chunk edits) (typeTree types levels k))) (newest n some-left)

@@ -15,7 +15,7 @@ use Rattle.text_pool.specs.declared.Pooled.{Pooled}
 use Rattle.text_pool.specs.declared.Pooled.the-variants.{At, Absent}
 use Rattle.text_pool.specs.Pool.{entries, entryCount, pooledAt}
 use Rattle.placing.specs.Ran.{chunkLimit}
-use Rattle.placing.specs.Scratch.{memberTypesStart, recordsStart, outerPool, innerPool, defaultPool, typesFrom, poolsIn, Ready}
+use Rattle.placing.specs.Scratch.{sharedWidth, memberTypesStart, recordsStart, outerPool, innerPool, defaultPool, typesFrom, poolsIn, Ready}
 use Rattle.placing.specs.InScratch.{Kept}
 use Rattle.placing.proofs.Runs.{ran-below, ran-like, ran-past}
 use Rattle.placing.proofs.ScratchPools.{outer-kept-before, inner-kept-before, defaults-kept-before, ready-kept}
@@ -82,7 +82,7 @@ module _ {chunk edits types : List ℕ} {levels k base n at sp : ℕ} {s : List 
   }
 
   -- There is room for one entry more.
-  pub entry-in : memberTypesStart + (base + n) * 2 + 2 ≤ recordsStart
+  pub entry-in : memberTypesStart + (base + n) * sharedWidth + sharedWidth ≤ recordsStart
   entry-in = omega (arith, known .room .stacked, known .within, tree-up types levels k)
 
   -- The room that writing it has.
@@ -91,9 +91,9 @@ module _ {chunk edits types : List ℕ} {levels k base n at sp : ℕ} {s : List 
 
   module _ {sm5 : Bool} {s₂ s₃ out out₂ : List ℕ} {placed : Span} (absent : looked-up ≡ Absent)
       (written : TypeWritten chunk edits types sm5 levels k (base + n) 0 at sp s s₂ out out₂ placed)
-      (pushed : s₃ ≡ splice s₂ (memberTypesStart + (base + n) * 2) (k ∷ placed .offset ∷ [])) where
+      (pushed : s₃ ≡ splice s₂ (memberTypesStart + (base + n) * sharedWidth) (k ∷ placed .offset ∷ [])) where
     abbrev push-place : ℕ
-    push-place = memberTypesStart + (base + n) * 2
+    push-place = memberTypesStart + (base + n) * sharedWidth
 
     kept-down : Keeps s s₂ (base + n) sp
     kept-down = subst (λ (e : ℕ). Keeps s s₂ e sp) (add-zero (base + n)) (written .keeps)

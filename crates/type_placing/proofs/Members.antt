@@ -16,7 +16,7 @@ use Rattle.writing.specs.Step.{Pools}
 use Rattle.writing.specs.Layout.{placeInnerName, placeMembers}
 use Rattle.text_pool.specs.Pool.{entryCount}
 use Rattle.placing.specs.Ran.{textOracle, Ran}
-use Rattle.placing.specs.Scratch.{innerStart, defaultsStart, variablesStart, region, innerPool, poolsIn, Ready}
+use Rattle.placing.specs.Scratch.{memberWidth, innerStart, defaultsStart, variablesStart, region, innerPool, poolsIn, Ready}
 use Rattle.placing.specs.InScratch.{Kept, TextPlaced}
 use Rattle.placing.specs.declared.Spot.{Spot}
 use Rattle.placing.proofs.Runs.{ran-bind, ran-return, ran-like}
@@ -24,7 +24,7 @@ use Rattle.placing.proofs.Regions.{region-agree}
 use Rattle.placing.proofs.ScratchPools.{inner-kept-before, ready-kept, pools-kept-before}
 use Rattle.type_equality.specs.Trees.{Walked, nodeAt, hasMember, membersAt, treeAt, typeTree}
 use Rattle.type_equality.proofs.Trees.{member-left, members-none, members-more, members-past, tree-up}
-use Rattle.type_placing.specs.Room.{Room, Keeps}
+use Rattle.type_placing.specs.Room.{nodeBytes, Room, Keeps}
 use Rattle.type_placing.specs.TypePlaced.{MemberTypePlaced, MembersPlaced}
 use Rattle.type_placing.specs.declared.Span.{Span}
 use Rattle.type_placing.proofs.Stacks.{write-kept, words-pushed, region-none, keeps-same, keeps-then, keeps-names, keeps-records}
@@ -38,16 +38,16 @@ pub record Going (chunk edits types : List ℕ) (sm5 : Bool) (levels count k bas
       → Ran chunk edits (placeMembers (textOracle chunk edits) sm5 (membersAt (treeAt types (levels - 1)) types count k .it)) at
       (poolsIn s₀ ts (typeTree types (levels - 1)) base n) out₀ out′ (region sp top s ++ records) end ps
   pub same-next : membersAt (treeAt types (levels - 1)) types count k .next ≡ membersAt (treeAt types (levels - 1)) types left next .next
-  pub counted : sp + 3 * memberCount (membersAt (treeAt types (levels - 1)) types count k .it)
-      ≡ top + 3 * memberCount (membersAt (treeAt types (levels - 1)) types left next .it)
+  pub counted : sp + memberWidth * memberCount (membersAt (treeAt types (levels - 1)) types count k .it)
+      ≡ top + memberWidth * memberCount (membersAt (treeAt types (levels - 1)) types left next .it)
   pub ready : Ready chunk edits s
   pub keeps : Keeps s₀ s (base + n) sp
   pub flat : levels ≡ 0 → left ≡ 0
   pub more : n ≤ entries
   pub stacked : entries + k ≤ n + next
   pub names : entryCount (innerPool s) + k * 2 ≤ entryCount (innerPool s₀) + next * 2
-  pub near : to + (top - sp) * 4 + k * 200000 ≤ at + next * 200000
-  pub records : top + k * 3 ≤ sp + next * 3
+  pub near : to + (top - sp) * 4 + k * nodeBytes ≤ at + next * nodeBytes
+  pub records : top + k * memberWidth ≤ sp + next * memberWidth
   pub up : sp ≤ top
 
 module _ {chunk edits types : List ℕ} {sm5 : Bool} {levels count k base n at sp : ℕ} {s₀ out₀ : List ℕ} where
@@ -219,7 +219,7 @@ module _ {chunk edits types : List ℕ} {sm5 : Bool} {levels count k base n at s
                 (subst (λ (w : Walked (Members Text)). Ran chunk edits (placeMembers (textOracle chunk edits) sm5 (w .it)) to (poolsIn s ts (typeTree types (levels - 1)) base entries)
                 out out′ (name .offset ∷ placed .offset ∷ node .«member_offset» ∷ records) end ps) (sym this-is) (run-this ts rest)));
             same-next = going .same-next ∙ ap (λ (w : Walked (Members Text)). w .next) this-is;
-            counted = going .counted ∙ ap (λ (w : Walked (Members Text)). top + 3 * memberCount (w .it)) this-is ∙ omega arith;
+            counted = going .counted ∙ ap (λ (w : Walked (Members Text)). top + memberWidth * memberCount (w .it)) this-is ∙ omega arith;
             ready = ready-kept (typed .ready) pushed-kept (omega (arith, room-here .records-low));
             keeps = keeps-all;
             flat = λ e. absurd (omega (arith, e, level));

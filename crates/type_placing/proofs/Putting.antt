@@ -14,6 +14,7 @@ use Rattle.writing.specs.Step.{_>>=_, append, pad, paddingAt, wordCells}
 use Rattle.writing.specs.Records.{halves, typeWords}
 use Rattle.placing.specs.Bytes.{joinedBytes}
 use Rattle.placing.specs.declared.Spot.{Spot}
+use Rattle.placing.specs.Scratch.{memberWidth}
 use Rattle.placing.proofs.CellBytes.{length-joined, joined-append}
 use Rattle.placing.proofs.Stores.{padding-short}
 use Rattle.placing.proofs.Runs.{ran-bind, ran-pad, ran-append-words, ran-empty, ran-unless-empty}
@@ -95,7 +96,7 @@ records-some records some p q = record {
 
 -- The records, padding, and the descriptor.
 pub type-put : (sm5 : Bool) (k : TypeNumbers) (name n : ℕ) (records : List ℕ) {out out₁ out₂ out₃ : List ℕ} {at start end : ℕ} {members : Spot}
-    → ((count : ℕ) → length records ≡ 3 * count → n ≡ count)
+    → ((count : ℕ) → length records ≡ memberWidth * count → n ≡ count)
     → RecordsPut records at out out₁ members → Put out₁ (members .at) (replicate (paddingAt (members .at)) 0xab) out₂ start
     → Put out₂ start (joinedBytes (typeWords sm5 k n (members .offset) name)) out₃ end
     → TypePut sm5 k name records at out out₃ (record { offset = start; at = end })

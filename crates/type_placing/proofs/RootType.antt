@@ -16,7 +16,7 @@ use Rattle.text_pool.specs.declared.Pooled.{Pooled}
 use Rattle.text_pool.specs.declared.Pooled.the-variants.{At, Absent}
 use Rattle.text_pool.specs.Pool.{entries, entryCount, pooledAt}
 use Rattle.placing.specs.Ran.{textOracle, chunkLimit, Ran}
-use Rattle.placing.specs.Scratch.{innerStart, defaultsStart, rootTypesStart, memberTypesStart, recordsStart, outerPool, innerPool, defaultPool, typesFrom, poolsIn, Ready}
+use Rattle.placing.specs.Scratch.{sharedWidth, innerStart, defaultsStart, rootTypesStart, memberTypesStart, recordsStart, outerPool, innerPool, defaultPool, typesFrom, poolsIn, Ready}
 use Rattle.placing.specs.InScratch.{Kept}
 use Rattle.placing.proofs.Runs.{ran-like, ran-past}
 use Rattle.placing.proofs.Regions.{region-agree, types-agree, types-kept-after}
@@ -93,7 +93,7 @@ module _ {chunk edits types : List ℕ} {share : Bool} {levels k roots : ℕ} {s
 
   module _ {sm5 : Bool} {n at : ℕ} {s₂ out out₂ : List ℕ} {placed : Span} (absent : looked-up ≡ Absent)
       (written : TypeWritten chunk edits types sm5 levels k 0 n at recordsStart s s₂ out out₂ placed) where
-    roots-same : (i : ℕ) → rootTypesStart + 0 * 2 ≤ i → i < rootTypesStart + (0 + roots) * 2 → getD s₂ i 0 ≡ getD s i 0
+    roots-same : (i : ℕ) → rootTypesStart + 0 * sharedWidth ≤ i → i < rootTypesStart + (0 + roots) * sharedWidth → getD s₂ i 0 ≡ getD s i 0
     roots-same i low high = written .keeps .middle i (omega arith) (omega (arith, known .few-roots))
 
     outer-kept : outerPool s₂ ≡ outerPool s
@@ -133,14 +133,14 @@ module _ {chunk edits types : List ℕ} {share : Bool} {levels k roots : ℕ} {s
     }
 
     -- The type is shared from now on.
-    module _ {s₃ : List ℕ} (pushed : s₃ ≡ splice s₂ (rootTypesStart + roots * 2) (k ∷ placed .offset ∷ [])) where
+    module _ {s₃ : List ℕ} (pushed : s₃ ≡ splice s₂ (rootTypesStart + roots * sharedWidth) (k ∷ placed .offset ∷ [])) where
       abbrev push-place : ℕ
-      push-place = rootTypesStart + roots * 2
+      push-place = rootTypesStart + roots * sharedWidth
 
       pushed-kept : Kept push-place (push-place + 2) s₂ s₃
       pushed-kept = write-kept s₂ push-place (k ∷ placed .offset ∷ []) pushed
 
-      place-is : rootTypesStart + (0 + roots) * 2 ≡ push-place
+      place-is : rootTypesStart + (0 + roots) * sharedWidth ≡ push-place
       place-is = omega arith
 
       entries-now : typesFrom tree rootTypesStart s₃ 0 (roots + 1) ≡ (tree k, placed .offset) ∷ root-types

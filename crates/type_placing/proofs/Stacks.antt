@@ -12,7 +12,7 @@ use Rattle.words.proofs.Splice.{splice-keeps-before, splice-keeps-after, take-s
 use Rattle.reflection.specs.declared.Text.{Text}
 use Rattle.reflection.specs.Reflection.{TypeDesc}
 use Rattle.reflection.specs.Limits.{typeRoom}
-use Rattle.placing.specs.Scratch.{innerStart, defaultsStart, memberTypesStart, recordsStart, variablesStart, region, typesFrom}
+use Rattle.placing.specs.Scratch.{sharedWidth, innerStart, defaultsStart, memberTypesStart, recordsStart, variablesStart, region, typesFrom}
 use Rattle.placing.specs.InScratch.{Kept}
 use Rattle.placing.proofs.Regions.{types-agree}
 use Rattle.type_placing.specs.Room.{Keeps}
@@ -52,10 +52,10 @@ region-none s sp =
 
 -- An entry pushed onto n entries.
 module _ (tree : ℕ → TypeDesc Text) (start : ℕ) (s : List ℕ) (base n node offset : ℕ) (s₁ : List ℕ) {s₂ : List ℕ}
-    (same : (i : ℕ) → start + base * 2 ≤ i → i < start + (base + n) * 2 → getD s₁ i 0 ≡ getD s i 0)
-    (e : s₂ ≡ splice s₁ (start + (base + n) * 2) (node ∷ offset ∷ [])) (fits : start + (base + n) * 2 + 2 ≤ length s₁) where
+    (same : (i : ℕ) → start + base * sharedWidth ≤ i → i < start + (base + n) * sharedWidth → getD s₁ i 0 ≡ getD s i 0)
+    (e : s₂ ≡ splice s₁ (start + (base + n) * sharedWidth) (node ∷ offset ∷ [])) (fits : start + (base + n) * sharedWidth + sharedWidth ≤ length s₁) where
   abbrev place : ℕ
-  place = start + (base + n) * 2
+  place = start + (base + n) * sharedWidth
 
   node-there : getD s₂ place 0 ≡ node
   node-there = ap (λ (l : List ℕ). getD l place 0) e ∙ ap (λ (i : ℕ). getD (splice s₁ place (node ∷ offset ∷ [])) i 0) (sym (add-zero place)) ∙ splice-puts s₁ place (node ∷ offset ∷ []) fits 0 0 (omega arith)
@@ -104,7 +104,7 @@ keeps-records entries sp p few low above below = record {
 }
 
 -- An entry that lies on the types' stack above the first `entries`.
-pub keeps-entries : {s s′ : List ℕ} (entries sp : ℕ) {from to : ℕ} → Kept from to s s′ → memberTypesStart + entries * 2 ≤ from → to ≤ recordsStart → Keeps s s′ entries sp
+pub keeps-entries : {s s′ : List ℕ} (entries sp : ℕ) {from to : ℕ} → Kept from to s s′ → memberTypesStart + entries * sharedWidth ≤ from → to ≤ recordsStart → Keeps s s′ entries sp
 keeps-entries entries sp p low below = record {
   long = p .long;
   outer = λ j h. p .before j (omega arith);

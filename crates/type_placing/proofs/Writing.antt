@@ -17,7 +17,7 @@ use Rattle.writing.specs.Step.{Step, unlessEmpty}
 use Rattle.writing.specs.Canonical.{bytesOracle, through}
 use Rattle.writing.specs.Layout.{writeType, placeInnerName}
 use Rattle.placing.specs.Ran.{textOracle, Ran}
-use Rattle.placing.specs.Scratch.{innerStart, defaultsStart, recordsStart, region, innerPool, poolsIn, Ready}
+use Rattle.placing.specs.Scratch.{memberWidth, innerStart, defaultsStart, recordsStart, region, innerPool, poolsIn, Ready}
 use Rattle.placing.specs.Pooling.{farthestOffset}
 use Rattle.placing.specs.InScratch.{TextPlaced}
 use Rattle.placing.specs.declared.Spot.{Spot}
@@ -99,7 +99,7 @@ module _ {chunk edits types : List ℕ} {sm5 : Bool} {levels k base n at sp : �
   next-is = walked .next ∙ sym (ap (λ (w : Walked (TypeDesc Text)). w .next) (tree-counted types levels k (known .is-node) (known .is-count)))
 
   -- Their records lie on the stack, in the scratch, and the cursor is not too far.
-  pub records-end : members .sp ≤ recordsStart + typeRoom * 3
+  pub records-end : members .sp ≤ recordsStart + typeRoom * memberWidth
   records-end = omega (arith, walked .records, next-is, known .within, known .room .records-high)
 
   pub records-in : members .sp ≤ length s₂
@@ -108,7 +108,7 @@ module _ {chunk edits types : List ℕ} {sm5 : Bool} {levels k base n at sp : �
   pub records-long : length (region sp (members .sp) s₂) ≡ members .sp - sp
   records-long = length-region sp (members .sp) s₂ (omega (arith, walked .pushed)) records-in
 
-  pub records-few : length (region sp (members .sp) s₂) ≤ typeRoom * 3
+  pub records-few : length (region sp (members .sp) s₂) ≤ typeRoom * memberWidth
   records-few = omega (arith, records-long, records-end, known .room .records-low)
 
   pub cursor-near : members .at ≤ farthestOffset

@@ -13,12 +13,12 @@ use Rattle.writing.specs.Same.{sameType}
 use Rattle.writing.specs.Layout.{placeType, placeMembers}
 use Rattle.text_pool.specs.Pool.{entryCount}
 use Rattle.placing.specs.Ran.{textOracle, Ran}
-use Rattle.placing.specs.Scratch.{rootTypesStart, variablesStart, region, outerPool, innerPool, defaultPool, typesFrom, poolsIn, Ready}
+use Rattle.placing.specs.Scratch.{memberWidth, rootTypesStart, variablesStart, region, outerPool, innerPool, defaultPool, typesFrom, poolsIn, Ready}
 use Rattle.placing.specs.declared.Spot.{Spot}
 use Rattle.type_equality.specs.Trees.{nodeAt, treeAt, membersAt, typeTree}
 use Rattle.type_equality.specs.Same.{sameName}
 use Rattle.type_placing.specs.Writing.{writeTree, appendRecords, closeType, onlyIf}
-use Rattle.type_placing.specs.Room.{Keeps}
+use Rattle.type_placing.specs.Room.{nodeBytes, spareBytes, Keeps}
 use Rattle.type_placing.specs.declared.Span.{Span}
 use Rattle.type_placing.specs.declared.Passed.{Passed}
 use Rattle.type_placing.specs.declared.RootSpan.{RootSpan}
@@ -35,13 +35,13 @@ sharedOffset share chunk edits types levels k s start base n =
 
 -- The records of `count` members were written.
 pub record RecordsPut (records : List ℕ) (at : ℕ) (out out′ : List ℕ) (r : Spot) : Type 0 where
-  pub ran : (chunk edits : List ℕ) (ps : Pools Text Text) (count : ℕ) → length records ≡ 3 * count
+  pub ran : (chunk edits : List ℕ) (ps : Pools Text Text) (count : ℕ) → length records ≡ memberWidth * count
       → Ran chunk edits (appendRecords count records) at ps out out′ (r .offset) (r .at) ps
   pub near : r .at ≤ at + 3 + 4 * length records
 
 -- The records of `count` members and the descriptor were written.
 pub record TypePut (sm5 : Bool) (k : TypeNumbers) (name : ℕ) (records : List ℕ) (at : ℕ) (out out′ : List ℕ) (r : Spot) : Type 0 where
-  pub ran : (chunk edits : List ℕ) (ps : Pools Text Text) (count : ℕ) → length records ≡ 3 * count
+  pub ran : (chunk edits : List ℕ) (ps : Pools Text Text) (count : ℕ) → length records ≡ memberWidth * count
       → Ran chunk edits (closeType sm5 k count name records) at ps out out′ (r .offset) (r .at) ps
   pub near : r .at ≤ at + 4 * length records + 42
 
@@ -56,7 +56,7 @@ pub record TypeWritten (chunk edits types : List ℕ) (sm5 : Bool) (levels k bas
   pub more : n ≤ r .n
   pub stacked : r .n + k + 1 ≤ n + r .next
   pub names : entryCount (innerPool s′) + k * 2 + 1 ≤ entryCount (innerPool s) + r .next * 2
-  pub near : r .at + k * 200000 + 133000 ≤ at + r .next * 200000
+  pub near : r .at + k * nodeBytes + spareBytes ≤ at + r .next * nodeBytes
 
 -- The type at node k was placed as a member's: found among the n entries from `base` on, or written, and then it is one entry more.
 pub record MemberTypePlaced (chunk edits types : List ℕ) (sm5 : Bool) (levels k base n at sp : ℕ) (s s′ out out′ : List ℕ) (r : Span) : Type 0 where
@@ -69,7 +69,7 @@ pub record MemberTypePlaced (chunk edits types : List ℕ) (sm5 : Bool) (levels 
   pub more : n ≤ r .n
   pub one : r .n ≤ n + 1
   pub names : entryCount (innerPool s′) + k * 2 + 1 ≤ entryCount (innerPool s) + r .next * 2
-  pub near : r .at + k * 200000 + 133000 ≤ at + r .next * 200000
+  pub near : r .at + k * nodeBytes + spareBytes ≤ at + r .next * nodeBytes
 
 -- `count` members were placed, the first at node k, of a type with so many levels: their records' words lie on the stack from sp on.
 pub record MembersPlaced (chunk edits types : List ℕ) (sm5 : Bool) (levels count k base n at sp : ℕ) (s s′ out out′ : List ℕ) (r : Passed) : Type 0 where
@@ -77,14 +77,14 @@ pub record MembersPlaced (chunk edits types : List ℕ) (sm5 : Bool) (levels cou
       → Ran chunk edits (placeMembers (textOracle chunk edits) sm5 (membersAt (treeAt types (levels - 1)) types count k .it)) at
       (poolsIn s ts (typeTree types (levels - 1)) base n) out out′ (region sp (r .sp) s′) (r .at) (poolsIn s′ ts (typeTree types (levels - 1)) base (r .n))
   pub next : r .next ≡ membersAt (treeAt types (levels - 1)) types count k .next
-  pub pushed : r .sp ≡ sp + 3 * memberCount (membersAt (treeAt types (levels - 1)) types count k .it)
+  pub pushed : r .sp ≡ sp + memberWidth * memberCount (membersAt (treeAt types (levels - 1)) types count k .it)
   pub ready : Ready chunk edits s′
   pub keeps : Keeps s s′ (base + n) sp
   pub more : n ≤ r .n
   pub stacked : r .n + k ≤ n + r .next
   pub names : entryCount (innerPool s′) + k * 2 ≤ entryCount (innerPool s) + r .next * 2
-  pub near : r .at + (r .sp - sp) * 4 + k * 200000 ≤ at + r .next * 200000
-  pub records : r .sp + k * 3 ≤ sp + r .next * 3
+  pub near : r .at + (r .sp - sp) * 4 + k * nodeBytes ≤ at + r .next * nodeBytes
+  pub records : r .sp + k * memberWidth ≤ sp + r .next * memberWidth
 
 -- The type at node k was placed as a variable's: found among the first `roots` entries of variables' types, or written, and then it is one entry more if it may
 -- be shared. The members' types of all variables are n entries, and then r .n.
@@ -103,4 +103,4 @@ pub record RootTypePlaced (chunk edits types : List ℕ) (sm5 share : Bool) (lev
   pub roots-more : roots ≤ r .roots
   pub one-root : r .roots ≤ roots + 1
   pub names : entryCount (innerPool s′) + k * 2 + 1 ≤ entryCount (innerPool s) + r .next * 2
-  pub near : r .at + k * 200000 + 133000 ≤ at + r .next * 200000
+  pub near : r .at + k * nodeBytes + spareBytes ≤ at + r .next * nodeBytes

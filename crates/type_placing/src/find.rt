@@ -4,7 +4,9 @@ ghost use Prim.Native.Nat.{_+_, _*_, _≤_};
 ghost use lib.ListN.{length};
 ghost use Rattle.reflection.specs.Limits.{typeRoom};
 ghost use Rattle.text_pool.specs.Pool.{pooledAt};
+ghost use Rattle.placing.specs.Scratch.{sharedWidth};
 ghost use Rattle.type_placing.specs.TypePlaced.{typeOffset, sharedOffset};
+use placing::SHARED_WORDS;
 use text_pool::Pooled;
 
 // A word as an index.
@@ -26,13 +28,13 @@ fn find_type<'a>(
     k: usize,
     levels: usize,
 ) -> Pooled
-    requires { ⌜ (start + (base + n) * 2 ≤ length (now s)) × (k ≤ typeRoom) ⌝ }
+    requires { ⌜ (start + (base + n) * sharedWidth ≤ length (now s)) × (k ≤ typeRoom) ⌝ }
     ensures { λ r. ⌜ pooledAt r ≡ typeOffset (now (chunk .entry)) (now (edits .entry)) (now (types .entry)) levels k (now (s .entry)) start base n ⌝ }
 {
     let mut left = n;
     while 0 < left {
         left -= 1;
-        let at = start + (base + left) * 2;
+        let at = start + (base + left) * SHARED_WORDS;
         let node = wide(s[at]);
         if type_equality::same_type(chunk, edits, types, k, node, levels) {
             return Pooled::At(s[at + 1]);
@@ -54,7 +56,7 @@ pub fn find_shared<'a>(
     levels: usize,
     share: bool,
 ) -> Pooled
-    requires { ⌜ (start + (base + n) * 2 ≤ length (now s)) × (k ≤ typeRoom) ⌝ }
+    requires { ⌜ (start + (base + n) * sharedWidth ≤ length (now s)) × (k ≤ typeRoom) ⌝ }
     ensures { λ r. ⌜ pooledAt r ≡ sharedOffset share (now (chunk .entry)) (now (edits .entry)) (now (types .entry)) levels k (now (s .entry)) start base n ⌝ }
 {
     if share {

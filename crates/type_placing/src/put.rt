@@ -9,7 +9,9 @@ ghost use Rattle.reflection.specs.Limits.{typeRoom};
 ghost use Rattle.writing.specs.Records.{halves, typeWords};
 ghost use Rattle.placing.specs.Bytes.{joinedBytes};
 ghost use Rattle.placing.specs.Pooling.{farthestOffset};
+ghost use Rattle.placing.specs.Scratch.{memberWidth};
 ghost use Rattle.type_placing.specs.TypePlaced.{RecordsPut, TypePut};
+use placing::MEMBER_WORDS;
 use placing::Spot;
 use reflection::TypeDesc;
 
@@ -23,7 +25,7 @@ fn two_halves(low: u32, high: u32) -> u32
 
 // Writes the members' records, after padding; nothing, and offset 0, where there are none.
 fn put_records(out: &mut [u8], at: usize, records: &[u32]) -> Spot
-    requires { ⌜ (at ≤ farthestOffset) × (length (now records) ≤ typeRoom * 3) ⌝ }
+    requires { ⌜ (at ≤ farthestOffset) × (length (now records) ≤ typeRoom * memberWidth) ⌝ }
     ensures { λ r. ⌜ RecordsPut (now (records .entry)) at (now (out .entry)) (now (out .exit)) r ⌝ }
 {
     if records.len() == 0 {
@@ -71,10 +73,10 @@ pub fn put_type(
     name: u32,
     sm5: bool,
 ) -> Spot
-    requires { ⌜ (at ≤ farthestOffset) × (length (now records) ≤ typeRoom * 3) ⌝ }
+    requires { ⌜ (at ≤ farthestOffset) × (length (now records) ≤ typeRoom * memberWidth) ⌝ }
     ensures { λ r. ⌜ TypePut sm5 (nodeFrom node .numbers) name (now (records .entry)) at (now (out .entry)) (now (out .exit)) r ⌝ }
 {
-    let count = records.len() / 3;
+    let count = records.len() / MEMBER_WORDS;
     let members = put_records(out, at, records);
     let offset = members.offset;
     let start = placing::put_padding(out, members.at);

@@ -12,6 +12,7 @@ use crate::find::find_shared;
 use crate::write::write_type;
 use placing::RECORDS_START;
 use placing::ROOT_TYPES_START;
+use placing::SHARED_WORDS;
 use reflection::CHUNK_LIMIT;
 use reflection::TYPE_LEVELS;
 use text_pool::Pooled;
@@ -82,7 +83,7 @@ pub fn place_root_type<'a>(
             );
             if share {
                 let entry = [k as u32, placed.offset];
-                words::put_words(s, ROOT_TYPES_START + roots * 2, &entry);
+                words::put_words(s, ROOT_TYPES_START + roots * SHARED_WORDS, &entry);
                 return RootSpan {
                     offset: placed.offset,
                     at: placed.at,

@@ -19,6 +19,8 @@ use crate::Span;
 use crate::find::find_shared;
 use crate::put::put_type;
 use placing::MEMBER_TYPES_START;
+use placing::MEMBER_WORDS;
+use placing::SHARED_WORDS;
 use placing::Spot;
 use reflection::CHUNK_LIMIT;
 use reflection::Text;
@@ -154,7 +156,7 @@ fn place_members<'a>(
         to = placed.at;
         next = placed.next;
         entries = placed.n;
-        top += 3;
+        top += MEMBER_WORDS;
         left -= 1;
     }
     Passed {
@@ -229,7 +231,7 @@ fn place_member_type<'a>(
                 sm5,
             );
             let entry = [k as u32, placed.offset];
-            words::put_words(s, MEMBER_TYPES_START + (base + n) * 2, &entry);
+            words::put_words(s, MEMBER_TYPES_START + (base + n) * SHARED_WORDS, &entry);
             Span {
                 offset: placed.offset,
                 at: placed.at,

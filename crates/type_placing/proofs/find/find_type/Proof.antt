@@ -4,6 +4,7 @@ use mathlib.Core.Path.{_≡_, refl, sym, _∙_}
 use Prim.Native.Nat.{_+_, _*_, _-_, _≤_}
 use native.Mathlib.Omega.{arith}
 use lib.ListN.{getD}
+use Rattle.placing.specs.Scratch.{sharedWidth}
 use Rattle.type_placing.specs.TypePlaced.{typeOffset}
 use Rattle.type_placing.proofs.Finding.{newest-found, newest-other, none-left}
 use Rattle.type_placing.proofs.find.find_type.Statement.{statement}
@@ -26,8 +27,8 @@ same-type-requires c κs =
     let loop = c .before .before .before .loop in
     let args = c .before .before .before .before .before .before .before .before .args in
     let pre = c .before .before .before .before .before .before .before .before .pre in
-    let bound = shared-slice-known5-call .given (args .start + (args .base + (loop .left - 1)) * 2) in
-    let is-node : wide-call .result ≡ getD (args .s .now) (args .start + (args .base + (loop .left - 1)) * 2) 0 = wide-call .ensures in
+    let bound = shared-slice-known5-call .given (args .start + (args .base + (loop .left - 1)) * sharedWidth) in
+    let is-node : wide-call .result ≡ getD (args .s .now) (args .start + (args .base + (loop .left - 1)) * sharedWidth) 0 = wide-call .ensures in
     (omega (arith, pre .1), omega (arith, is-node, bound))
 
 returns : tie.Need-returns Inv-loop μ-loop
