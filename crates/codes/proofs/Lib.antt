@@ -5,4 +5,3 @@ pub mod Dimensions
 pub mod VariableClasses
 pub mod BaseTypes
 pub mod Masks
-pub mod Examples

@@ -2,4 +2,3 @@ pub mod Padding
 pub mod Tables
 pub mod Joined
 pub mod Listed
-pub mod Examples

@@ -1,3 +1,2 @@
 -- Laws of reading that the code of the walks rests on.
 pub mod Steps
-pub mod Examples

@@ -18,8 +18,8 @@ use Rattle.reflection.specs.Nodes
 use Rattle.reflection.specs.Tables
 use Rattle.reflection.specs.Contents
 use Rattle.reflection.specs.Contents.{Bytes, contents}
-use Rattle.reading.specs.Examples as Chunks
-use Rattle.reading.specs.Examples.{caseV, caseV5, float, globals, major5, readV}
+use Rattle.writing.specs.EdgeChunks as Chunks
+use Rattle.writing.specs.EdgeChunks.{caseV, caseV5, float, globals, major5, readV}
 use Rattle.readable.specs.Readable
 use Rattle.readable.specs.Readable.{readableContents}
 use Rattle.writing.specs.Step

@@ -3,10 +3,8 @@ pub mod ParseParts
 pub mod ParseNumbers
 pub mod ParseTypes
 pub mod ParseAscii
-pub mod ParseExamples
 pub mod WritePieces
 pub mod WriteRefusals
-pub mod WriteExamples
 pub mod WriteDecimal
 pub mod WriteSplit
 pub mod WriteReadBack

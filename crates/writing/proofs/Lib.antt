@@ -1,5 +1,4 @@
 -- Laws of the canonical form.
-pub mod Examples
 pub mod NaturalSteps
 pub mod Natural
 pub mod Sizes

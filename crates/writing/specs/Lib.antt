@@ -5,4 +5,4 @@ pub mod Layout
 pub mod Canonical
 pub mod Outcome
 pub mod Payload
-pub mod Examples
+pub mod EdgeChunks

@@ -1,0 +1,9 @@
+pub mod Example
+pub mod Chunks
+pub mod Reading
+pub mod Writing
+pub mod Spelling
+pub mod Parsing
+pub mod Listing
+pub mod Codes
+pub mod Examples
