@@ -1,5 +1,6 @@
 -- Looking a number up, whatever the table: a row that is found has the number; a number that no row has is not found; where the numbers count up from
--- 0, those that are known are exactly those up to the last. All by going down the table.
+-- 0, those that are known are exactly those up to the last. All by going down the table. An answer that names the row at a number says whether the
+-- number is known.
 use mathlib.Core.Bool.{Bool, true, false, _&&_, _||_}
 use mathlib.Core.List.{List, [], _∷_, map}
 use mathlib.Core.Option.{Option, none, some, Option·some-injective, Option·none-ne-some}
@@ -50,6 +51,10 @@ module _ {A : Type 0} where
       go : (b : Bool) → eqb (first .1) n ≡ b → (lookup rows n ≡ some row → row .1 ≡ n) → elim b [ true ↦ some first | false ↦ lookup rows n ] ≡ some row → row .1 ≡ n
       go true q later e = ap (λ (r : A × ℕ). r .1) (sym (Option·some-injective first row e)) ∙ eqb-true (first .1) n q
       go false q later e = later e
+
+  pub answer-known : {R : Type 0} (answer : R → Option (A × ℕ)) (table : Table A) (n : ℕ) {r s : R} → answer r ≡ lookup table n → r ≡ s → isRow (answer s) ≡ known table n
+  unfolding known
+  answer-known answer table n e is = ap (λ r. isRow (answer r)) (sym is) ∙ ap isRow e
 
   consecutive-row : (k : ℕ) (row : A × ℕ) (rows : Table A) → T (consecutive k (row ∷ rows)) → (row .1 ≡ k) × T (consecutive (suc k) rows)
   consecutive-row k row rows t =

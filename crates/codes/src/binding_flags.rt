@@ -1,8 +1,7 @@
 // The flags of a binding (D3D_SHADER_INPUT_FLAGS): 0x2 is a comparison sampler.
 ghost use mathlib.Core.Path.{_≡_};
-ghost use lib.Dec.{leb};
 ghost use Rattle.codes.specs.Microsoft.{«D3D_SIF_USERPACKED», «D3D_SIF_COMPARISON_SAMPLER», «D3D_SIF_TEXTURE_COMPONENT_0», «D3D_SIF_TEXTURE_COMPONENT_1», «D3D_SIF_UNUSED»};
-ghost use Rattle.codes.specs.Flags.{flag};
+ghost use Rattle.codes.specs.Flags.{flag, bindingFlagsAllowed};
 
 pub struct BindingFlags(pub u32);
 
@@ -37,9 +36,9 @@ impl BindingFlags {
         self.0 / 0x10 % 2 == 1
     }
 
-    // No bit outside 0x1f.
+    // No bit outside Microsoft's masks, which together are 0x1f.
     pub fn allowed(self) -> bool
-        ensures { λ r. ⌜ r ≡ leb (self .0) 0x1f ⌝ }
+        ensures { λ r. ⌜ r ≡ bindingFlagsAllowed (self .0) ⌝ }
     {
         self.0 <= 0x1f
     }

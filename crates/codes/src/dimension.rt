@@ -1,6 +1,6 @@
 // The dimension of a bound resource (D3D_SRV_DIMENSION). Shader bytecode numbers dimensions otherwise: there 3 is a 2D texture, here a 1D array.
 ghost use mathlib.Core.Path.{_≡_};
-ghost use Rattle.codes.specs.Table.{lookup};
+ghost use Rattle.codes.specs.Table.{lookup, known};
 ghost use Rattle.codes.specs.Microsoft.{srvDimensions};
 ghost use Rattle.codes.specs.Dimension.{dimensionRow, dimensionAnswer};
 
@@ -43,6 +43,17 @@ impl ResourceDimension {
             10 => DimensionCode::Known(ResourceDimension::TextureCubeArray),
             11 => DimensionCode::Known(ResourceDimension::BufferEx),
             _ => DimensionCode::Unknown,
+        }
+    }
+
+    // Whether the number is one of Microsoft's dimensions.
+    pub fn is_known(v: u32) -> bool
+        ensures { λ r. ⌜ r ≡ known srvDimensions v ⌝ }
+    {
+        let code = ResourceDimension::from_u32(v);
+        match code {
+            DimensionCode::Known(_) => true,
+            DimensionCode::Unknown => false,
         }
     }
 

@@ -1,6 +1,6 @@
 // What a binding is bound to (D3D_SHADER_INPUT_TYPE).
 ghost use mathlib.Core.Path.{_≡_};
-ghost use Rattle.codes.specs.Table.{lookup};
+ghost use Rattle.codes.specs.Table.{lookup, known};
 ghost use Rattle.codes.specs.Microsoft.{inputTypes};
 ghost use Rattle.codes.specs.InputType.{inputTypeRow, inputTypeAnswer};
 
@@ -47,6 +47,17 @@ impl ResourceInputType {
             12 => InputTypeCode::Known(ResourceInputType::RtAccelerationStructure),
             13 => InputTypeCode::Known(ResourceInputType::UavFeedbackTexture),
             _ => InputTypeCode::Unknown,
+        }
+    }
+
+    // Whether the number is one of Microsoft's input types.
+    pub fn is_known(v: u32) -> bool
+        ensures { λ r. ⌜ r ≡ known inputTypes v ⌝ }
+    {
+        let code = ResourceInputType::from_u32(v);
+        match code {
+            InputTypeCode::Known(_) => true,
+            InputTypeCode::Unknown => false,
         }
     }
 
