@@ -8,6 +8,9 @@ use borrow.Author.Tests.{le-leb, lt-leb}
 use lib.Dec.{eqb, leb}
 use lib.ListN.{length}
 use Rattle.words.specs.Parts.{inside, part}
+use Rattle.codes.specs.Table.{known}
+use Rattle.codes.specs.Microsoft.{inputTypes, srvDimensions}
+use Rattle.codes.specs.Flags.{bindingFlagsAllowed}
 use Rattle.reflection.specs.declared.Text.{Text}
 use Rattle.reflection.specs.declared.ResourceBinding.{ResourceBinding as BindingRecord}
 use Rattle.reflection.specs.declared.CBufferDef.{CBufferDef as BufferRecord}
@@ -40,10 +43,12 @@ four-zeros b x y z w = zeros-unless b (x ∷ y ∷ z ∷ w ∷ []) ∙ ap (λ t.
 
 pub binding-tested : (chunk edits : Bytes) (wide : Bool) (b : BindingRecord) → bindingHeld chunk edits wide b
     ≡ (nameHeld chunk edits (b .name)
-    && (leb (b .«input_type») 13 && (leb (b .dimension) 11 && (leb (b .flags .0) 0x1f && (wide || (eqb (b .space) 0 && eqb (b .id) 0))))))
+    && (known inputTypes (b .«input_type»)
+    && (known srvDimensions (b .dimension) && (bindingFlagsAllowed (b .flags .0) && (wide || (eqb (b .space) 0 && eqb (b .id) 0))))))
 unfolding bindingHeld bindingReadable bindingFrom
 binding-tested chunk edits wide b =
-    ap (λ z. nameHeld chunk edits (b .name) && (leb (b .«input_type») 13 && (leb (b .dimension) 11 && (leb (b .flags .0) 0x1f && z)))) (two-zeros wide (b .space) (b .id))
+    ap (λ z. nameHeld chunk edits (b .name) && (known inputTypes (b .«input_type») && (known srvDimensions (b .dimension) && (bindingFlagsAllowed (b .flags .0) && z))))
+    (two-zeros wide (b .space) (b .id))
 
 pub variable-tested : (chunk edits : Bytes) (sm5 : Bool) (v : VariableRecord) → variableHeld chunk edits sm5 v
     ≡ (nameHeld chunk edits (v .name)

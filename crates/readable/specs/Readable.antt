@@ -8,6 +8,9 @@ use lib.Dec.{eqb, leb}
 use lib.ListN.{length}
 use Rattle.text.specs.Utf8.{wellFormed}
 use Rattle.text.specs.Strings.{withoutNul}
+use Rattle.codes.specs.Table.{known}
+use Rattle.codes.specs.Microsoft.{inputTypes, srvDimensions}
+use Rattle.codes.specs.Flags.{bindingFlagsAllowed}
 use Rattle.reflection.specs.declared.Text.{Text}
 use Rattle.reflection.specs.declared.ResourceDef.{ResourceDef as Header}
 use Rattle.reflection.specs.Reflection.{TypeNumbers, TypeDesc, typeDesc, Members, noMember, member, memberCount, CBufferVariable, CBufferDef, ResourceBinding, ResourceDef, Rd11, noRd11, rd11, majorOf, isSm5, isWide}
@@ -43,7 +46,9 @@ versionReadable version (rd11 identifier stride slots) =
 
 -- "codes as in 8 to 10; space and id 0 for stride 32"
 unfoldable pub bindingReadable : {N : Type 0} → Bool → ResourceBinding N → Bool
-bindingReadable wide b = leb (b .input-type) 13 && (leb (b .dimension) 11 && (leb (b .flags) 0x1f && zeroUnless wide (b .space ∷ b .id ∷ [])))
+bindingReadable wide b =
+    known inputTypes (b .input-type)
+    && (known srvDimensions (b .dimension) && (bindingFlagsAllowed (b .flags) && zeroUnless wide (b .space ∷ b .id ∷ [])))
 
 -- "16-bit fields below 65,536"; "for major 4, types without … extra words"
 unfoldable pub numbersReadable : Bool → TypeNumbers → Bool

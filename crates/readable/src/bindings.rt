@@ -1,11 +1,12 @@
 // The records of the bindings' table.
 ghost use mathlib.Core.Path.{_≡_};
 ghost use Rattle.readable.specs.Checks.{bindingHeld, bindingsHeld};
-use crate::at_most;
 use crate::both;
 use crate::either;
 use crate::names::name_readable;
 use crate::same;
+use codes::ResourceDimension;
+use codes::ResourceInputType;
 use reflection::ResourceBinding;
 
 // Whether a binding is readable: its name, its codes and, where it has no space and id, that they are 0.
@@ -14,10 +15,10 @@ fn binding_readable(chunk: &[u8], edits: &[u8], wide: bool, b: ResourceBinding) 
 {
     let flags = b.flags;
     let placed = either(wide, both(same(b.space, 0), same(b.id, 0)));
-    let flagged = both(at_most(flags.0, 0x1f), placed);
+    let flagged = both(flags.allowed(), placed);
     let coded = both(
-        at_most(b.input_type, 13),
-        both(at_most(b.dimension, 11), flagged),
+        ResourceInputType::is_known(b.input_type),
+        both(ResourceDimension::is_known(b.dimension), flagged),
     );
     let name = b.name;
     both(name_readable(chunk, edits, name), coded)

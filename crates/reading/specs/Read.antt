@@ -9,12 +9,16 @@ use Rattle.words.specs.Parts.{inside}
 use Rattle.text.specs.declared.Found.{Found}
 use Rattle.text.specs.declared.Found.the-variants.{At, Bad}
 use Rattle.text.specs.Strings.{cstringAt}
+use Rattle.codes.specs.Table.{known}
+use Rattle.codes.specs.Microsoft.{inputTypes, srvDimensions}
+use Rattle.codes.specs.Flags.{bindingFlagsAllowed}
 use Rattle.reflection.specs.declared.Text.{Text}
 use Rattle.reflection.specs.Outcome.{Outcome, ok, refused}
 use Rattle.reflection.specs.Reflection.{TypeNumbers, TypeDesc, typeDesc, Members, noMember, member, Rd11, noRd11, rd11, ResourceBinding, CBufferVariable, CBufferDef, ResourceDef, isSm5, isWide}
 pub use Rattle.reflection.specs.Reflection.{majorOf}
 pub use Rattle.reflection.specs.Strides.{bindingStride, variableStride, typeStride}
 use Rattle.reflection.specs.Limits.{typeLevels}
+use Rattle.reflection.specs.Refusals.{badInputType, badDimension, badBindingFlags}
 use Rattle.reading.specs.Step.{Room, Step, _>>=_, return, refuse, check, textOr, takeBinding, takeBuffer, takeVariable, takeType}
 
 -- A word that only the longer record has; 0 in the other.
@@ -138,14 +142,14 @@ bindingFrom s wide at name = record {
   id = wordIf wide s (at + 36);
 }
 
--- A binding: room, record, input type, dimension, flags, name.
+-- A binding: room, record, input type, dimension, flags, name. Its codes are in Microsoft's tables.
 unfoldable pub readBinding : List ℕ → Bool → ℕ → Step (ResourceBinding Text)
 readBinding s wide at = do
   _ ← takeBinding
   _ ← check (inside (length s) at (bindingStride wide)) 7
-  _ ← check (leb (wordAt s (at + 4)) 13) 8
-  _ ← check (leb (wordAt s (at + 12)) 11) 9
-  _ ← check (leb (wordAt s (at + 28)) 0x1f) 10
+  _ ← check (known inputTypes (wordAt s (at + 4))) badInputType
+  _ ← check (known srvDimensions (wordAt s (at + 12))) badDimension
+  _ ← check (bindingFlagsAllowed (wordAt s (at + 28))) badBindingFlags
   name ← textOr 11 (cstringAt s (wordAt s at))
   return (bindingFrom s wide at name)
 

@@ -5,14 +5,17 @@ use mathlib.Core.Bool.{Bool, true, false}
 use Prim.Native.Nat.{ℕ, _+_, _*_, _<_, _≤_}
 use native.Mathlib.Omega.{arith}
 use native.Mathlib.Nat.{add-zero}
-use lib.Dec.{leb}
 use lib.ListN.{length, getD, length-map}
 use Rattle.words.specs.Words.{wordAt}
 use Rattle.text.specs.Strings.{cstringAt}
+use Rattle.codes.specs.Table.{known}
+use Rattle.codes.specs.Microsoft.{inputTypes, srvDimensions}
+use Rattle.codes.specs.Flags.{bindingFlagsAllowed}
 use Rattle.reflection.specs.declared.Text.{Text}
 use Rattle.reflection.specs.Reflection.{ResourceBinding, mapBinding}
 use Rattle.reflection.specs.Texts.{inChunk}
 use Rattle.reflection.specs.Contents.{Bytes}
+use Rattle.reflection.specs.Refusals.{badInputType, badDimension, badBindingFlags}
 use Rattle.reading.specs.Step.{room}
 use Rattle.reading.specs.Read.{bindingStride, wordIf, bindingFrom, readBinding}
 use Rattle.readable.specs.Readable.{nameReadable}
@@ -75,9 +78,9 @@ module _ (cells : List (Cell Bytes Bytes)) (short : length cells ≤ 65536) (wid
         p,
         then-free _ _ binding-takes
             (free-then _ _ (check-takes _ 7 (inside-bytes cells at (bindingStride wide) (omega (arith, words-fit cells at (bindingWords wide b o) h, length-bindingWords wide b o))))
-            (free-then _ _ (check-takes _ 8 (ap (λ (w : ℕ). leb w 13) (word 1 (omega arith)) ∙ there .fine .input-type))
-            (free-then _ _ (check-takes _ 9 (ap (λ (w : ℕ). leb w 11) (word 3 (omega arith)) ∙ there .fine .dimension))
-            (free-then _ _ (check-takes _ 10 (ap (λ (w : ℕ). leb w 0x1f) (word 7 (omega arith)) ∙ there .fine .flags))
+            (free-then _ _ (check-takes _ badInputType (ap (known inputTypes) (word 1 (omega arith)) ∙ there .fine .input-type))
+            (free-then _ _ (check-takes _ badDimension (ap (known srvDimensions) (word 3 (omega arith)) ∙ there .fine .dimension))
+            (free-then _ _ (check-takes _ badBindingFlags (ap bindingFlagsAllowed (word 7 (omega arith)) ∙ there .fine .flags))
             (free-then _ _ (text-takes 11 _ o (length (b .name)) (ap (cstringAt (bytesOf cells)) (ap (wordAt (bytesOf cells)) (sym (add-zero at)) ∙ word 0 (omega arith)) ∙ there .name .found))
             (returns _ p (λ i. record {
               name = name;

@@ -9,6 +9,9 @@ use borrow.Author.Tests.{leb-true, eqb-true}
 use lib.Dec.{leb, eqb}
 use lib.ListN.{length, length-append}
 use Rattle.text.proofs.Bools.{and-true}
+use Rattle.codes.specs.Table.{known}
+use Rattle.codes.specs.Microsoft.{inputTypes, srvDimensions}
+use Rattle.codes.specs.Flags.{bindingFlagsAllowed}
 use Rattle.reflection.specs.Reflection.{TypeNumbers, TypeDesc, typeDesc, Members, noMember, member, memberCount, CBufferVariable, CBufferDef, ResourceBinding, ResourceDef, isSm5, isWide, identifierOf, strideOf, slotsOf}
 use Rattle.reflection.specs.Nodes.{Fits, FitsAll, typeLevels}
 use Rattle.reflection.specs.Tables.{allVariables}
@@ -61,9 +64,9 @@ pub record ReadableBuffer (sm5 : Bool) (b : CBufferDef Bytes Bytes) : Type 0 whe
 pub record ReadableBinding (wide : Bool) (b : ResourceBinding Bytes) : Type 0 where
   pub name : nameReadable (b .name) ≡ true
   pub words : Words (bindingNumbers b)
-  pub input-type : leb (b .input-type) 13 ≡ true
-  pub dimension : leb (b .dimension) 11 ≡ true
-  pub flags : leb (b .flags) 0x1f ≡ true
+  pub input-type : known inputTypes (b .input-type) ≡ true
+  pub dimension : known srvDimensions (b .dimension) ≡ true
+  pub flags : bindingFlagsAllowed (b .flags) ≡ true
   pub longer : All (Longer wide) (b .space ∷ b .id ∷ [])
 
 pub record Readable (r : ResourceDef Bytes Bytes) : Type 0 where
@@ -181,9 +184,9 @@ readable-buffers sm5 (b ∷ bs) outer few e names words =
 readable-binding : (wide : Bool) (b : ResourceBinding Bytes) → bindingReadable wide b ≡ true → nameReadable (b .name) ≡ true → Words (bindingNumbers b) → ReadableBinding wide b
 unfolding bindingReadable bindingNumbers Words
 readable-binding wide b e name words =
-    let (input-type, e₁) = and-true (leb (b .input-type) 13) (leb (b .dimension) 11 && (leb (b .flags) 0x1f && zeroUnless wide (b .space ∷ b .id ∷ []))) e in
-    let (dimension, e₂) = and-true (leb (b .dimension) 11) (leb (b .flags) 0x1f && zeroUnless wide (b .space ∷ b .id ∷ [])) e₁ in
-    let (flags, longer) = and-true (leb (b .flags) 0x1f) (zeroUnless wide (b .space ∷ b .id ∷ [])) e₂ in
+    let (input-type, e₁) = and-true (known inputTypes (b .input-type)) (known srvDimensions (b .dimension) && (bindingFlagsAllowed (b .flags) && zeroUnless wide (b .space ∷ b .id ∷ []))) e in
+    let (dimension, e₂) = and-true (known srvDimensions (b .dimension)) (bindingFlagsAllowed (b .flags) && zeroUnless wide (b .space ∷ b .id ∷ [])) e₁ in
+    let (flags, longer) = and-true (bindingFlagsAllowed (b .flags)) (zeroUnless wide (b .space ∷ b .id ∷ [])) e₂ in
     record { name = name; words = words; input-type = input-type; dimension = dimension; flags = flags; longer = longer-all wide (b .space ∷ b .id ∷ []) longer (words .1 .1 .1 .1 .1 .1 .1) }
 
 readable-bindings : (wide : Bool) (bs : List (ResourceBinding Bytes)) → All (λ b. bindingReadable wide b ≡ true) bs → Named (map (λ b. b .name) bs) → AllWords bindingNumbers bs

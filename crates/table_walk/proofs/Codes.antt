@@ -4,53 +4,60 @@ use mathlib.Core.Bool.{Bool, true, false}
 use mathlib.Core.List.{List}
 use Prim.Native.Nat.{ℕ, zero, suc, _+_, _≤_, _<_}
 use native.Mathlib.Omega.{arith}
-use borrow.Author.Tests.{le-leb, lt-leb, leb-true, leb-false}
-use lib.Dec.{leb}
 use Rattle.words.specs.Words.{wordAt}
+use Rattle.codes.specs.Table.{known}
+use Rattle.codes.specs.Microsoft.{inputTypes, srvDimensions}
+use Rattle.codes.specs.Flags.{bindingFlagsAllowed}
 use Rattle.reflection.specs.Outcome.{Outcome, refused, because}
+use Rattle.reflection.specs.Refusals.{badInputType, badDimension, badBindingFlags}
 use Rattle.reading.specs.Step.{Room, Step, _>>=_, check}
 use Rattle.reading.proofs.Steps.{check-holds, check-fails}
 use Rattle.table_walk.specs.Bindings.{codeFault}
 
 module _ (s : List ℕ) (at : ℕ) where
-  pub fault-in-type : 13 < wordAt s (at + 4) → codeFault s at ≡ 8
-  unfolding codeFault
-  fault-in-type i = rw (lt-leb (wordAt s (at + 4)) 13 i, codeFault)
+  abbrev inputTypeKnown : Bool
+  inputTypeKnown = known inputTypes (wordAt s (at + 4))
 
-  pub fault-in-dimension : wordAt s (at + 4) ≤ 13 → 11 < wordAt s (at + 12) → codeFault s at ≡ 9
-  unfolding codeFault
-  fault-in-dimension i d = rw (le-leb (wordAt s (at + 4)) 13 i, lt-leb (wordAt s (at + 12)) 11 d, codeFault)
+  abbrev dimensionKnown : Bool
+  dimensionKnown = known srvDimensions (wordAt s (at + 12))
 
-  pub fault-in-flags : wordAt s (at + 4) ≤ 13 → wordAt s (at + 12) ≤ 11 → 0x1f < wordAt s (at + 28) → codeFault s at ≡ 10
-  unfolding codeFault
-  fault-in-flags i d f = rw (le-leb (wordAt s (at + 4)) 13 i, le-leb (wordAt s (at + 12)) 11 d, lt-leb (wordAt s (at + 28)) 0x1f f, codeFault)
+  abbrev flagsAllowed : Bool
+  flagsAllowed = bindingFlagsAllowed (wordAt s (at + 28))
 
-  pub no-fault : wordAt s (at + 4) ≤ 13 → wordAt s (at + 12) ≤ 11 → wordAt s (at + 28) ≤ 0x1f → codeFault s at ≡ 0
+  pub fault-in-type : inputTypeKnown ≡ false → codeFault s at ≡ badInputType
   unfolding codeFault
-  no-fault i d f = rw (le-leb (wordAt s (at + 4)) 13 i, le-leb (wordAt s (at + 12)) 11 d, le-leb (wordAt s (at + 28)) 0x1f f, codeFault)
+  fault-in-type i = rw (i, codeFault)
+
+  pub fault-in-dimension : inputTypeKnown ≡ true → dimensionKnown ≡ false → codeFault s at ≡ badDimension
+  unfolding codeFault
+  fault-in-dimension i d = rw (i, d, codeFault)
+
+  pub fault-in-flags : inputTypeKnown ≡ true → dimensionKnown ≡ true → flagsAllowed ≡ false → codeFault s at ≡ badBindingFlags
+  unfolding codeFault
+  fault-in-flags i d f = rw (i, d, f, codeFault)
+
+  pub no-fault : inputTypeKnown ≡ true → dimensionKnown ≡ true → flagsAllowed ≡ true → codeFault s at ≡ 0
+  unfolding codeFault
+  no-fault i d f = rw (i, d, f, codeFault)
 
 -- the three checks of reading, and what is read after them
 module _ {A : Type 0} (s : List ℕ) (at : ℕ) (after : Unit {0} → Step A) (r : Room) where
   abbrev checked : Outcome (A × Room)
-  checked = (check (leb (wordAt s (at + 4)) 13) 8 >>= λ _. check (leb (wordAt s (at + 12)) 11) 9 >>= λ _. check (leb (wordAt s (at + 28)) 0x1f) 10 >>= after) r
+  checked =
+      (check (inputTypeKnown s at) badInputType >>= λ _. check (dimensionKnown s at) badDimension >>= λ _. check (flagsAllowed s at) badBindingFlags >>= after) r
 
   abbrev unlessFault : ℕ → Outcome (A × Room)
   unlessFault zero = after tt r
   unlessFault (suc e) = refused (because (suc e))
 
   checked-is : checked ≡ unlessFault (codeFault s at)
-  checked-is = go (leb (wordAt s (at + 4)) 13) refl (leb (wordAt s (at + 12)) 11) refl (leb (wordAt s (at + 28)) 0x1f) refl
+  checked-is = go (inputTypeKnown s at) refl (dimensionKnown s at) refl (flagsAllowed s at) refl
     where
-      go : (i : Bool) → leb (wordAt s (at + 4)) 13 ≡ i → (d : Bool) → leb (wordAt s (at + 12)) 11 ≡ d → (f : Bool) → leb (wordAt s (at + 28)) 0x1f ≡ f
-          → checked ≡ unlessFault (codeFault s at)
-      go false i d _ f _ = check-fails _ _ _ _ i ∙ sym (ap unlessFault (fault-in-type s at (leb-false _ _ i)))
-      go true i false d f _ = check-holds _ _ _ _ i ∙ check-fails _ _ _ _ d ∙ sym (ap unlessFault (fault-in-dimension s at (leb-true _ _ i) (leb-false _ _ d)))
-      go true i true d false f =
-          check-holds _ _ _ _ i ∙ check-holds _ _ _ _ d ∙ check-fails _ _ _ _ f
-          ∙ sym (ap unlessFault (fault-in-flags s at (leb-true _ _ i) (leb-true _ _ d) (leb-false _ _ f)))
-      go true i true d true f =
-          check-holds _ _ _ _ i ∙ check-holds _ _ _ _ d ∙ check-holds _ _ _ _ f
-          ∙ sym (ap unlessFault (no-fault s at (leb-true _ _ i) (leb-true _ _ d) (leb-true _ _ f)))
+      go : (i : Bool) → inputTypeKnown s at ≡ i → (d : Bool) → dimensionKnown s at ≡ d → (f : Bool) → flagsAllowed s at ≡ f → checked ≡ unlessFault (codeFault s at)
+      go false i d _ f _ = check-fails _ _ _ _ i ∙ sym (ap unlessFault (fault-in-type s at i))
+      go true i false d f _ = check-holds _ _ _ _ i ∙ check-fails _ _ _ _ d ∙ sym (ap unlessFault (fault-in-dimension s at i d))
+      go true i true d false f = check-holds _ _ _ _ i ∙ check-holds _ _ _ _ d ∙ check-fails _ _ _ _ f ∙ sym (ap unlessFault (fault-in-flags s at i d f))
+      go true i true d true f = check-holds _ _ _ _ i ∙ check-holds _ _ _ _ d ∙ check-holds _ _ _ _ f ∙ sym (ap unlessFault (no-fault s at i d f))
 
   pub codes-hold : codeFault s at ≤ 0 → checked ≡ after tt r
   codes-hold none = checked-is ∙ ap unlessFault (let e : codeFault s at ≡ 0 = omega arith in e)

@@ -3,13 +3,16 @@ use mathlib.Core.Path.{_≡_}
 use mathlib.Core.Bool.{Bool, true, false}
 use mathlib.Core.List.{List, [], _++_}
 use Prim.Native.Nat.{ℕ, _+_, _*_, _-_, _/_, _≤_}
-use lib.Dec.{leb}
 use lib.ListN.{length, take}
 use Rattle.words.specs.Words.{wordAt}
+use Rattle.codes.specs.Table.{known}
+use Rattle.codes.specs.Microsoft.{inputTypes, srvDimensions}
+use Rattle.codes.specs.Flags.{bindingFlagsAllowed}
 use Rattle.reflection.specs.declared.Text.{Text}
 use Rattle.reflection.specs.Reflection.{ResourceBinding}
 use Rattle.reflection.specs.Records.{bindingWords}
 use Rattle.reflection.specs.Tables.{bindingRecord}
+use Rattle.reflection.specs.Refusals.{badInputType, badDimension, badBindingFlags}
 use Rattle.reading.specs.Step.{Room, room}
 use Rattle.reading.specs.Read.{readMany, readBinding, bindingStride}
 use Rattle.type_walk.specs.declared.Walk.{Walk}
@@ -24,15 +27,15 @@ appendBinding x w = w ++ bindingWords (bindingRecord x)
 unfoldable pub bindingsProgress : List ℕ → Bool → ℕ → ℕ → List ℕ → Room → Progress (List ℕ)
 bindingsProgress s wide n at w r = progress (appendAll appendBinding) (readMany (readBinding s wide) (bindingStride wide) n at r) w
 
--- 8, 9 or 10 where a code of the binding at an offset is not allowed, else 0.
+-- The refusal of the first code of the binding at an offset that is not in Microsoft's tables, else 0.
 unfoldable pub codeFault : List ℕ → ℕ → ℕ
 codeFault s at =
-    elim (leb (wordAt s (at + 4)) 13) [
-      | true ↦ elim (leb (wordAt s (at + 12)) 11) [
-        | true ↦ elim (leb (wordAt s (at + 28)) 0x1f) [ true ↦ 0 | false ↦ 10 ]
-        | false ↦ 9
+    elim (known inputTypes (wordAt s (at + 4))) [
+      | true ↦ elim (known srvDimensions (wordAt s (at + 12))) [
+        | true ↦ elim (bindingFlagsAllowed (wordAt s (at + 28))) [ true ↦ 0 | false ↦ badBindingFlags ]
+        | false ↦ badDimension
       ]
-      | false ↦ 8
+      | false ↦ badInputType
     ]
 
 pub record ReadyBindings (s : List ℕ) (capacity : ℕ) (t : List ℕ) : Type 0 where

@@ -6,6 +6,8 @@ ghost use Rattle.reading.specs.Read.{bindingStride, bindingFrom};
 ghost use Rattle.table_walk.specs.Bindings.{codeFault, bindingsProgress, ReadyBindings, WalkedBindings};
 use crate::in_chunk;
 use codes::BindingFlags;
+use codes::ResourceDimension;
+use codes::ResourceInputType;
 use reflection::Refusal;
 use reflection::ResourceBinding;
 use reflection::Text;
@@ -19,23 +21,24 @@ fn binding_stride(wide: bool) -> usize
     if wide { 40 } else { 32 }
 }
 
-// 8, 9 or 10 where a code of the binding at `at` is not allowed, else 0.
+// The refusal of the first code of the binding at `at` that is not in Microsoft's tables, else 0.
 fn code_fault(s: &[u8], at: usize) -> u32
     requires { ⌜ at ≤ 65536 ⌝ }
     ensures { λ r. ⌜ r ≡ codeFault (now (s .entry)) at ⌝ }
 {
-    if words::word_at(s, at + 4) <= 13 {
-        if words::word_at(s, at + 12) <= 11 {
-            if words::word_at(s, at + 28) <= 0x1f {
+    if ResourceInputType::is_known(words::word_at(s, at + 4)) {
+        if ResourceDimension::is_known(words::word_at(s, at + 12)) {
+            let flags = BindingFlags(words::word_at(s, at + 28));
+            if flags.allowed() {
                 0
             } else {
-                10
+                reflection::BAD_BINDING_FLAGS
             }
         } else {
-            9
+            reflection::BAD_DIMENSION
         }
     } else {
-        8
+        reflection::BAD_INPUT_TYPE
     }
 }
 

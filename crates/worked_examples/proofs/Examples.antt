@@ -7,6 +7,7 @@ use Rattle.text.specs.Strings
 use Rattle.text.specs.Same as TextSame
 use Rattle.codes.specs.Table
 use Rattle.codes.specs.Microsoft
+use Rattle.codes.specs.Flags
 use Rattle.codes.specs.Variable
 use Rattle.reflection.specs.Reflection
 use Rattle.reflection.specs.Texts
@@ -52,7 +53,7 @@ unfolding Utf8.run Utf8.wellFormed Strings.untilNul Strings.ifWellFormed Strings
 texts = tt
 
 unfoldable codes : Unit {0}
-unfolding Table.lookup Table.known Microsoft.inputTypes Microsoft.srvDimensions Microsoft.variableClasses Microsoft.variableTypes Variable.spelled Variable.baseTypes
+unfolding Table.lookup Table.known Flags.bindingFlagsAllowed Microsoft.inputTypes Microsoft.srvDimensions Microsoft.variableClasses Microsoft.variableTypes Variable.spelled Variable.baseTypes
 codes = tt
 
 unfoldable reflections : Unit {0}

@@ -18,17 +18,17 @@ both-requires c κs = search needs
 either-requires : tie.Need-either-requires
 either-requires c κs = search needs
 
-at-most-requires : tie.Need-at-most-requires
-at-most-requires c κs = search needs
+allowed-requires : tie.Need-allowed-requires
+allowed-requires c κs = search needs
 
 both-requires-2 : tie.Need-both-requires-2
 both-requires-2 c κs = search needs
 
-at-most-requires-2 : tie.Need-at-most-requires-2
-at-most-requires-2 c κs = search needs
+is-known-requires : tie.Need-is-known-requires
+is-known-requires c κs = search needs
 
-at-most-requires-3 : tie.Need-at-most-requires-3
-at-most-requires-3 c κs = search needs
+is-known-requires-2 : tie.Need-is-known-requires-2
+is-known-requires-2 c κs = search needs
 
 both-requires-3 : tie.Need-both-requires-3
 both-requires-3 c κs = search needs
@@ -46,9 +46,9 @@ returns : tie.Need-returns
 returns c =
     let start = c .before .before .before .before .before .before .before .before .before .before .before .before .before .before .before .before in
     both-are (c .both5 .ensures) (c .before .name-readable .ensures)
-    (both-are (c .before .before .before .both4 .ensures) (c .before .before .before .before .before .before .at-most2 .ensures)
-    (both-are (c .before .before .before .before .both3 .ensures) (c .before .before .before .before .before .at-most3 .ensures)
-    (both-are (c .before .before .before .before .before .before .before .both2 .ensures) (c .before .before .before .before .before .before .before .before .at-most .ensures)
+    (both-are (c .before .before .before .both4 .ensures) (c .before .before .before .before .before .before .is-known .ensures)
+    (both-are (c .before .before .before .before .both3 .ensures) (c .before .before .before .before .before .is-known2 .ensures)
+    (both-are (c .before .before .before .before .before .before .before .both2 .ensures) (c .before .before .before .before .before .before .before .before .allowed .ensures)
     (either-is (start .args .wide) (c .before .before .before .before .before .before .before .before .before .either .ensures) (both-are (c .before .before .before .before .before .before .before .before .before .before .both .ensures) (c .before .before .before .before .before .before .before .before .before .before .before .before .same .ensures) (c .before .before .before .before .before .before .before .before .before .before .before .same2 .ensures))))))
     ∙ sym (binding-tested (start .args .chunk .now) (start .args .edits .now) (start .args .wide) (start .args .b))
 
@@ -60,10 +60,10 @@ binding-readable-spec =
     same-requires-2
     both-requires
     either-requires
-    at-most-requires
+    allowed-requires
     both-requires-2
-    at-most-requires-2
-    at-most-requires-3
+    is-known-requires
+    is-known-requires-2
     both-requires-3
     both-requires-4
     name-readable-requires
