@@ -1,17 +1,23 @@
 -- A text written to a lent output: document 01, "Refusals" (17; zeros on a refusal; what lies past the written length keeps its old content).
-use mathlib.Core.Bool.{cond}
+use mathlib.Core.Bool.{Bool, cond}
 use mathlib.Core.List.{List}
 use Prim.Native.Nat.{ℕ, min, _^_}
 use lib.Dec.{leb}
 use lib.ListN.{length, replicate}
 use Rattle.words.specs.Splice.{splice}
+use Rattle.reflection.specs.Limits.{chunkLimit}
+use Rattle.reflection.specs.Refusals.{outputTooSmall}
 use Rattle.reflection.specs.Outcome.{Outcome, ok, refused, because}
 use Rattle.emit.specs.declared.Written.{Written}
 use Rattle.emit.specs.declared.Written.the-variants.{Wrote, Refused}
 
--- The bytes, where they fit the output and 65,536; else 17.
+-- Whether so many bytes fit an output with this room, and are no more than a chunk may have.
+abbrev pub fitsIn : ℕ → ℕ → Bool
+fitsIn room n = leb n (min room chunkLimit)
+
+-- The bytes, where they fit; else 17.
 unfoldable pub fitting : ℕ → Outcome (List ℕ) → Outcome (List ℕ)
-fitting room (ok bytes) = cond (leb (length bytes) (min room 65536)) (ok bytes) (refused (because 17))
+fitting room (ok bytes) = cond (fitsIn room (length bytes)) (ok bytes) (refused (because outputTooSmall))
 fitting room (refused e) = refused e
 
 -- The answer's two cases: how many bytes were written, or the refusal.
@@ -28,9 +34,9 @@ outputOf (refused e) out = replicate (length out) 0
 abbrev pub farthest : ℕ
 farthest = 2 ^ 62
 
--- The answer at the end of writing, by the cursor: the length, where it lies in the output and in 65,536; else 17.
+-- The answer at the end of writing, by the cursor: the length, where so many bytes fit; else 17.
 unfoldable pub finished : ℕ → ℕ → Written
-finished room at = cond (leb at (min room 65536)) (Wrote at) (Refused (because 17))
+finished room at = cond (fitsIn room at) (Wrote at) (Refused (because outputTooSmall))
 
 -- An output after an answer: as it was written, or zeros.
 unfoldable pub kept : Written → List ℕ → List ℕ

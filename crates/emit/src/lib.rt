@@ -79,8 +79,8 @@ pub fn finish(out: &mut [u8], at: usize) -> Written
     ensures answer { λ r. ⌜ r ≡ finished (length (now (out .entry))) at ⌝ }
     ensures out { λ _. ⌜ now (out .exit) ≡ kept (finished (length (now (out .entry))) at) (now (out .entry)) ⌝ }
 {
-    if at <= words::least(out.len(), 65536) {
+    if at <= words::least(out.len(), reflection::CHUNK_LIMIT) {
         return Written::Wrote(at);
     }
-    refuse(out, 17)
+    refuse(out, reflection::OUTPUT_TOO_SMALL)
 }

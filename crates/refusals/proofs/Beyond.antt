@@ -4,6 +4,7 @@ use mathlib.Core.List.{[]}
 use Prim.Native.Nat.{ℕ, zero, suc, _<_, _≤_}
 use native.Mathlib.Omega.{arith}
 use lib.ListN.{length, List·getD-eq-default}
+use Rattle.reflection.specs.Refusals.{noSpelling}
 use Rattle.refusals.specs.Sentences.{sentences, sentence}
 
 -- n is none of the numbers 1 to k, in the form in which the `_` of a match on them knows it
@@ -15,9 +16,9 @@ beyond : (k n : ℕ) → NoneTo k (suc n) → k < suc n
 beyond zero n h = omega arith
 beyond (suc k) n h = omega (arith, beyond k n (h .0), h .1)
 
-pub no-sentence : (n : ℕ) → NoneTo 18 n → sentence n ≡ []
+pub no-sentence : (n : ℕ) → NoneTo noSpelling n → sentence n ≡ []
 unfolding sentence
 no-sentence zero h = refl
 no-sentence (suc n) h =
-    let past : length sentences ≤ n = omega (arith, beyond 18 n h) in
+    let past : length sentences ≤ n = omega (arith, beyond noSpelling n h) in
     List·getD-eq-default sentences [] past

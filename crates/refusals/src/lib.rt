@@ -13,56 +13,68 @@ fn put_sentence(out: &mut [u8], number: u32) -> usize
     ensures { λ r. ⌜ Put (now (out .entry)) 0 (sentence number) (now (out .exit)) r ⌝ }
 {
     match number {
-        1 => put_bytes(out, 0, b"the chunk has fewer than 28 bytes"),
-        2 => put_bytes(out, 0, b"the chunk has more than 65,536 bytes"),
-        3 => put_bytes(out, 0, b"the major version is neither 4 nor 5"),
-        4 => put_bytes(
+        reflection::CHUNK_TOO_SHORT => put_bytes(out, 0, b"the chunk has fewer than 28 bytes"),
+        reflection::CHUNK_TOO_LONG => put_bytes(out, 0, b"the chunk has more than 65,536 bytes"),
+        reflection::BAD_VERSION => put_bytes(out, 0, b"the major version is neither 4 nor 5"),
+        reflection::BAD_CREATOR => put_bytes(
             out,
             0,
             b"the creator lies past the end of the chunk, has no NUL or is not UTF-8",
         ),
-        5 => put_bytes(
+        reflection::RD11_MISSING => put_bytes(
             out,
             0,
             b"the chunk has major version 5 and fewer than 60 bytes",
         ),
-        6 => put_bytes(out, 0, b"a word of the RD11 header is not allowed"),
-        7 => put_bytes(
+        reflection::BAD_RD11 => put_bytes(out, 0, b"a word of the RD11 header is not allowed"),
+        reflection::RECORD_PAST_END => put_bytes(
             out,
             0,
             b"a record or a type descriptor runs past the end of the chunk",
         ),
-        8 => put_bytes(out, 0, b"the input type of a binding is above 13"),
-        9 => put_bytes(out, 0, b"the dimension of a binding is above 11"),
-        10 => put_bytes(out, 0, b"the flags of a binding have a bit outside 0x1f"),
-        11 => put_bytes(
+        reflection::BAD_INPUT_TYPE => put_bytes(out, 0, b"the input type of a binding is above 13"),
+        reflection::BAD_DIMENSION => put_bytes(out, 0, b"the dimension of a binding is above 11"),
+        reflection::BAD_BINDING_FLAGS => put_bytes(
+            out,
+            0,
+            b"the flags of a binding have a bit outside 0x1f",
+        ),
+        reflection::BAD_NAME => put_bytes(
             out,
             0,
             b"a name lies past the end of the chunk, has no NUL or is not UTF-8",
         ),
-        12 => put_bytes(out, 0, b"a default value runs past the end of the chunk"),
-        13 => put_bytes(
+        reflection::DEFAULT_PAST_END => put_bytes(
+            out,
+            0,
+            b"a default value runs past the end of the chunk",
+        ),
+        reflection::TYPE_TOO_DEEP => put_bytes(
             out,
             0,
             b"types are nested deeper than 64 levels below a variable's type",
         ),
-        14 => put_bytes(out, 0, b"a type descriptor lies on the path to itself"),
-        15 => put_bytes(
+        reflection::TYPE_CYCLE => put_bytes(
+            out,
+            0,
+            b"a type descriptor lies on the path to itself",
+        ),
+        reflection::NO_ROOM => put_bytes(
             out,
             0,
             b"there is no room for one more record, or the scratch table is too short",
         ),
-        16 => put_bytes(
+        reflection::NOT_READABLE => put_bytes(
             out,
             0,
             b"the reflection is not readable: a number, a name or a default value is not one that a chunk can hold",
         ),
-        17 => put_bytes(
+        reflection::OUTPUT_TOO_SMALL => put_bytes(
             out,
             0,
             b"the output is too small, or more than 65,536 bytes would be written",
         ),
-        18 => put_bytes(
+        reflection::NO_SPELLING => put_bytes(
             out,
             0,
             b"the type has no spelling, or the text spells no type",

@@ -5,6 +5,7 @@ use borrow.Author.Tests.{le-leb, lt-leb}
 use lib.ListN.{length}
 use Rattle.emit.specs.Written.{finished, kept, writtenOf, outputOf}
 use borrow.Author.Needs.{needs}
+use Rattle.reflection.specs.Limits.{chunkLimit}
 use Rattle.emit.proofs.finish.Statement.{statement}
 use Rattle.emit.proofs.finish.Tie as tie
 
@@ -15,8 +16,8 @@ returns : tie.Need-returns
 unfolding finished kept
 returns c =
     let a = c .before .before .before .args in
-    let fits : a .at ≤ min (length (a .out .now)) 65536 = omega (arith, c .before .least .ensures, c .if1 .taken) in
-    let e = le-leb (a .at) (min (length (a .out .now)) 65536) fits in
+    let fits : a .at ≤ min (length (a .out .now)) chunkLimit = omega (arith, c .before .least .ensures, c .if1 .taken) in
+    let e = le-leb (a .at) (min (length (a .out .now)) chunkLimit) fits in
     (rw e, rw e)
 
 refuse-requires : tie.Need-refuse-requires
@@ -30,8 +31,8 @@ unfolding finished kept writtenOf outputOf
 returns-2 c =
     let a = c .before .before .before .before .before .before .before .args in
     let least = c .before .before .before .before .before .least .ensures in
-    let over : min (length (a .out .now)) 65536 < a .at = omega (arith, least, c .before .before .before .before .if1 .left) in
-    let e = lt-leb (a .at) (min (length (a .out .now)) 65536) over in
+    let over : min (length (a .out .now)) chunkLimit < a .at = omega (arith, least, c .before .before .before .before .if1 .left) in
+    let e = lt-leb (a .at) (min (length (a .out .now)) chunkLimit) over in
     (rw e (c .before .before .refuse .ensures .0), rw e (c .before .before .refuse .ensures .1))
 
 pub finish-spec : {M : Type 1} → statement M
