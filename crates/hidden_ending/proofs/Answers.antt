@@ -7,11 +7,13 @@ use Prim.Native.Nat.{ℕ, min, _≤_}
 use native.Mathlib.Omega.{arith}
 use lib.Dec.{T, leb, leb→le}
 use lib.ListN.{length}
+use Rattle.reflection.specs.Limits.{chunkLimit}
+use Rattle.reflection.specs.Refusals.{noRoom, notReadable, outputTooSmall}
 use Rattle.reflection.specs.Outcome.{Outcome, ok, refused, because}
 use Rattle.reflection.specs.Reflection.{ResourceDef}
 use Rattle.reflection.specs.Contents.{Bytes}
 use Rattle.readable.specs.Readable.{readableContents}
-use Rattle.emit.specs.Written.{fitting}
+use Rattle.emit.specs.Written.{fitsIn, fitting}
 use Rattle.writing.specs.Canonical.{canonical}
 use Rattle.writing.specs.Outcome.{scratchSize, canonicalOr16, write}
 use Rattle.hidden_ending.specs.HiddenEnding.{Alike, Hidden, both-refused, both-written}
@@ -19,29 +21,31 @@ use Rattle.hidden_ending.proofs.SameButDefaults.{Common}
 
 -- What is written, by the three tests: enough scratch, readable, room in the output.
 abbrev answer : Bool → Bool → Bool → Bytes → Outcome Bytes
-answer false readable fits bytes = refused (because 15)
-answer true false fits bytes = refused (because 16)
-answer true true false bytes = refused (because 17)
+answer false readable fits bytes = refused (because noRoom)
+answer true false fits bytes = refused (because notReadable)
+answer true true false bytes = refused (because outputTooSmall)
 answer true true true bytes = ok bytes
 
-write-by-tests : (scratch room : ℕ) (a : ResourceDef Bytes Bytes) → write scratch room (some a) ≡ answer (leb scratchSize scratch) (readableContents a) (leb (length (canonical a)) (min room 65536)) (canonical a)
+write-by-tests : (scratch room : ℕ) (a : ResourceDef Bytes Bytes) → write scratch room (some a)
+    ≡ answer (leb scratchSize scratch) (readableContents a) (fitsIn room (length (canonical a))) (canonical a)
 unfolding write canonicalOr16 fitting
 write-by-tests scratch room a = go (leb scratchSize scratch) (readableContents a)
   where
-    fit : (fits : Bool) → cond fits (ok (canonical a)) (refused (because 17)) ≡ answer true true fits (canonical a)
+    fit : (fits : Bool) → cond fits (ok (canonical a)) (refused (because outputTooSmall)) ≡ answer true true fits (canonical a)
     fit true = refl
     fit false = refl
 
     go : (enough readable : Bool)
-        → cond enough (fitting room (cond readable (ok (canonical a)) (refused (because 16)))) (refused (because 15)) ≡ answer enough readable (leb (length (canonical a)) (min room 65536)) (canonical a)
+        → cond enough (fitting room (cond readable (ok (canonical a)) (refused (because notReadable)))) (refused (because noRoom))
+        ≡ answer enough readable (fitsIn room (length (canonical a))) (canonical a)
     go false readable = refl
     go true false = refl
-    go true true = fit (leb (length (canonical a)) (min room 65536))
+    go true true = fit (fitsIn room (length (canonical a)))
 
 -- Both answers, by the tests of the first evening.
 module _ (scratch room : ℕ) (a b : ResourceDef Bytes Bytes) (common : Common a b) where
   abbrev fits : ResourceDef Bytes Bytes → Bool
-  fits r = leb (length (canonical r)) (min room 65536)
+  fits r = fitsIn room (length (canonical r))
 
   record Tests (enough readable fit : Bool) : Type 0 where
     scratch-is : leb scratchSize scratch ≡ enough
@@ -54,16 +58,16 @@ module _ (scratch room : ℕ) (a b : ResourceDef Bytes Bytes) (common : Common a
   second-answer : {enough readable fit : Bool} → Tests enough readable fit → write scratch room (some b) ≡ answer enough readable fit (canonical b)
   second-answer t =
       let readable = sym (common .same-readable) ∙ t .readable-is in
-      let fit = ap (λ (n : ℕ). leb n (min room 65536)) (sym (common .same-length)) ∙ t .fits-is in
+      let fit = ap (fitsIn room) (sym (common .same-length)) ∙ t .fits-is in
       write-by-tests scratch room b ∙ (λ i. answer (t .scratch-is i) (readable i) (fit i) (canonical b))
 
-  both-answers : (enough readable fit : Bool) → Tests enough readable fit → (readableContents a ≡ true → length (canonical a) ≤ 65536 → Alike a b) → Hidden scratch room a b
-  both-answers false readable fit t same = both-refused (because 15) (first-answer t) (second-answer t)
-  both-answers true false fit t same = both-refused (because 16) (first-answer t) (second-answer t)
-  both-answers true true false t same = both-refused (because 17) (first-answer t) (second-answer t)
+  both-answers : (enough readable fit : Bool) → Tests enough readable fit → (readableContents a ≡ true → length (canonical a) ≤ chunkLimit → Alike a b) → Hidden scratch room a b
+  both-answers false readable fit t same = both-refused (because noRoom) (first-answer t) (second-answer t)
+  both-answers true false fit t same = both-refused (because notReadable) (first-answer t) (second-answer t)
+  both-answers true true false t same = both-refused (because outputTooSmall) (first-answer t) (second-answer t)
   both-answers true true true t same =
-      let short : length (canonical a) ≤ min room 65536 = leb→le _ _ (subst T (sym (t .fits-is)) tt) in
+      let short : length (canonical a) ≤ min room chunkLimit = leb→le _ _ (subst T (sym (t .fits-is)) tt) in
       both-written (first-answer t) (second-answer t) (same (t .readable-is) (omega arith))
 
-  pub same-answers : (readableContents a ≡ true → length (canonical a) ≤ 65536 → Alike a b) → Hidden scratch room a b
+  pub same-answers : (readableContents a ≡ true → length (canonical a) ≤ chunkLimit → Alike a b) → Hidden scratch room a b
   same-answers same = both-answers (leb scratchSize scratch) (readableContents a) (fits a) (record { scratch-is = refl; readable-is = refl; fits-is = refl }) same

@@ -4,6 +4,7 @@
 use mathlib.Core.Path.{ap, sym, _∙_, subst}
 use mathlib.Core.List.{[], map}
 use Prim.Native.Nat.{ℕ, _≤_}
+use Rattle.reflection.specs.Limits.{chunkLimit}
 use Rattle.reflection.specs.declared.Text.{Text}
 use Rattle.reflection.specs.Reflection.{ResourceDef}
 use Rattle.reflection.specs.Texts.{textBytes}
@@ -42,7 +43,7 @@ pub hidden-ending : (scratch room : ℕ) (a b : ResourceDef Bytes Bytes) → Num
 hidden-ending scratch room a b words same =
     same-answers scratch room a b common λ readable short.
     let back-a = round-trip a readable words short in
-    let back-b = round-trip b (sym (common .same-readable) ∙ readable) (common .same-words words) (subst (λ (n : ℕ). n ≤ 65536) (common .same-length) short) in
+    let back-b = round-trip b (sym (common .same-readable) ∙ readable) (common .same-words words) (subst (λ (n : ℕ). n ≤ chunkLimit) (common .same-length) short) in
     alike a b common back-a back-b
   where
     common : Common a b

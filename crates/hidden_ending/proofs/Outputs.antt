@@ -11,11 +11,13 @@ use lib.Dec.{leb}
 use lib.ListN.{length, take, drop, replicate}
 use lib.Seq.{take-append-seam}
 use Rattle.words.specs.Splice.{splice, splice-eq}
+use Rattle.reflection.specs.Limits.{chunkLimit}
+use Rattle.reflection.specs.Refusals.{noRoom, outputTooSmall}
 use Rattle.reflection.specs.Outcome.{Outcome, ok, refused, because}
 use Rattle.reflection.specs.Reflection.{ResourceDef}
 use Rattle.reflection.specs.Contents.{Bytes}
 use Rattle.emit.specs.declared.Written.the-variants.{Wrote, Refused}
-use Rattle.emit.specs.Written.{fitting, writtenOf, outputOf}
+use Rattle.emit.specs.Written.{fitsIn, fitting, writtenOf, outputOf}
 use Rattle.writing.specs.Canonical.{canonical}
 use Rattle.writing.specs.Outcome.{scratchSize, canonicalOr16, write}
 use Rattle.round_trip.specs.RoundTrip.{NumbersAreWords}
@@ -24,18 +26,18 @@ use Rattle.hidden_ending.specs.HiddenEnding.{SameButDefaults, Hidden, bo
 use Rattle.hidden_ending.specs.Outputs.{answerOf, outputAfter, OutputsAlike, both-refused as outputs-refused, both-written as outputs-written}
 
 -- What was written fits the output.
-fits-by-test : (test : Bool) (bytes written : Bytes) → cond test (ok bytes) (refused (because 17)) ≡ ok written → (test ≡ true) × (bytes ≡ written)
+fits-by-test : (test : Bool) (bytes written : Bytes) → cond test (ok bytes) (refused (because outputTooSmall)) ≡ ok written → (test ≡ true) × (bytes ≡ written)
 fits-by-test true bytes written e = (refl, ap (λ o. elim o [ ok b ↦ b | refused r ↦ bytes ]) e)
 fits-by-test false bytes written e = absurd (let apart : _≡_ {A = ℕ} 0 1 = cc in omega arith)
 
 fitting-fits : (room : ℕ) (o : Outcome Bytes) (written : Bytes) → fitting room o ≡ ok written → length written ≤ room
 unfolding fitting
 fitting-fits room (ok bytes) written e =
-    let (test, same) = fits-by-test (leb (length bytes) (min room 65536)) bytes written e in
-    omega (arith, leb-true (length bytes) (min room 65536) test, ap length same)
+    let (test, same) = fits-by-test (fitsIn room (length bytes)) bytes written e in
+    omega (arith, leb-true (length bytes) (min room chunkLimit) test, ap length same)
 fitting-fits room (refused r) written e = absurd (let apart : _≡_ {A = ℕ} 0 1 = cc in omega arith)
 
-write-by-test : (test : Bool) (room : ℕ) (o : Outcome Bytes) (written : Bytes) → cond test (fitting room o) (refused (because 15)) ≡ ok written → length written ≤ room
+write-by-test : (test : Bool) (room : ℕ) (o : Outcome Bytes) (written : Bytes) → cond test (fitting room o) (refused (because noRoom)) ≡ ok written → length written ≤ room
 write-by-test true room o written e = fitting-fits room o written e
 write-by-test false room o written e = absurd (let apart : _≡_ {A = ℕ} 0 1 = cc in omega arith)
 

@@ -6,6 +6,7 @@ use mathlib.Core.Bool.{Bool, _&&_, _||_}
 use Prim.Native.Nat.{ℕ, _+_}
 use lib.Dec.{eqb, leb}
 use lib.ListN.{length, length-map}
+use Rattle.reflection.specs.Limits.{bindingRoom, bufferRoom, variableRoom, typeRoom}
 use Rattle.reflection.specs.Reflection.{CBufferVariable, CBufferDef, ResourceDef, mapType, mapBinding, mapVariable, mapBuffer, mapDef, isSm5, isWide}
 use Rattle.reflection.specs.Nodes.{nodesOf, typeLevels}
 use Rattle.reflection.specs.Tables.{allVariables}
@@ -58,7 +59,7 @@ module _ {N M D E : Type 0} (f : N → M) (g g′ : D → E) where
       ap length (variables-map f g bs) ∙ length-map (allVariables bs) (mapVariable f g) ∙ sym (length-map (allVariables bs) (mapVariable f g′)) ∙ sym (ap length (variables-map f g′ bs)) in
       let nodes : nodeCount (allVariables (map (mapBuffer f g) bs)) ≡ nodeCount (allVariables (map (mapBuffer f g′) bs)) =
       ap nodeCount (variables-map f g bs) ∙ same-node-count (allVariables bs) ∙ sym (ap nodeCount (variables-map f g′ bs)) in
-      λ i. leb (length (map (mapBinding f) (r .bindings))) 1024 && (leb (buffers i) 64 && (leb (variables i) 2048 && leb (nodes i) 4096))
+      λ i. leb (length (map (mapBinding f) (r .bindings))) bindingRoom && (leb (buffers i) bufferRoom && (leb (variables i) variableRoom && leb (nodes i) typeRoom))
 
   -- No number is a default's.
   variables-words : (vs : List (CBufferVariable N D)) → AllWords variableNumbers (map (mapVariable f g) vs) → AllWords variableNumbers (map (mapVariable f g′) vs)

@@ -16,7 +16,7 @@ use Rattle.reflection.specs.Texts.{inChunk}
 use Rattle.reflection.specs.Tables.{allVariables}
 use Rattle.reflection.specs.Contents.{defaultsOf}
 use Rattle.writing.specs.Step.{Cell, defaultByte, Oracle, Pools, pools, Step, _>>=_, return, append, remember, pad, wordCells, ahead, found, once, unlessEmpty, addDefault, cellsOf}
-use Rattle.writing.specs.Records.{VariableOffsets, variableWords, variableSize, Section, bufferWords, bindingWords, bindingSize, headerWords, headerSize, BodyOffsets, rows}
+use Rattle.writing.specs.Records.{VariableOffsets, variableWords, variableSize, Section, bufferWords, bufferSize, bindingWords, bindingSize, headerWords, headerSize, BodyOffsets, rows}
 use Rattle.writing.specs.Layout.{zip, placeInnerName, placeDefault, placeType, placeVariable, placeVariables, placeSection, placeSections, placeOuterNames, placeBufferParts, placeBuffers, placeBody, placeChunk, layout}
 use Rattle.writing.proofs.Sizes.{word-cells-length, rows-length, variable-words-length, buffer-words-length, header-words-length, variables-length, outer-names-length, section-length, buffer-parts-length}
 use Rattle.round_trip.specs.RoundTrip.{placesOf, sectionOffsets, defaultPlaces}
@@ -244,11 +244,12 @@ module _ {N D : Type 0} (O : Oracle N D) where
   unfolding placeBuffers
   buffers-in-places sm5 [] = return-in-places (0, []) [] (λ o. bufferPlaces [] (o .1)) (λ p c. absurd c)
   buffers-in-places sm5 (b ∷ bs) =
+      let B = ahead (length (b ∷ bs) * bufferSize) (rows bufferWords (b ∷ bs)) (placeBufferParts O sm5 (b ∷ bs)) in
       bind-in-places pad _ [] (λ _. []) (λ o. bufferPlaces (b ∷ bs) (o .1)) (plain-in-places pad [] plain-pad) λ at₀ ps₀.
-      bind-in-places (ahead (length (b ∷ bs) * 6) (rows bufferWords (b ∷ bs)) (placeBufferParts O sm5 (b ∷ bs))) _ [] (bufferPlaces (b ∷ bs)) (λ o. bufferPlaces (b ∷ bs) (o .1))
-      (ahead-in-places (length (b ∷ bs) * 6) (rows bufferWords (b ∷ bs)) (placeBufferParts O sm5 (b ∷ bs)) [] (bufferPlaces (b ∷ bs))
-      (λ at ps. rows-length bufferWords 6 buffer-words-length (b ∷ bs) _ (buffer-parts-length O sm5 (b ∷ bs) at ps)) (buffer-parts-in-places sm5 (b ∷ bs))) λ at₁ ps₁.
-      return-in-places _ (bufferPlaces (b ∷ bs) (ahead (length (b ∷ bs) * 6) (rows bufferWords (b ∷ bs)) (placeBufferParts O sm5 (b ∷ bs)) at₁ ps₁ .result)) (λ o. bufferPlaces (b ∷ bs) (o .1)) (λ p c. c)
+      bind-in-places B _ [] (bufferPlaces (b ∷ bs)) (λ o. bufferPlaces (b ∷ bs) (o .1))
+      (ahead-in-places (length (b ∷ bs) * bufferSize) (rows bufferWords (b ∷ bs)) (placeBufferParts O sm5 (b ∷ bs)) [] (bufferPlaces (b ∷ bs))
+      (λ at ps. rows-length bufferWords bufferSize buffer-words-length (b ∷ bs) _ (buffer-parts-length O sm5 (b ∷ bs) at ps)) (buffer-parts-in-places sm5 (b ∷ bs))) λ at₁ ps₁.
+      return-in-places _ (bufferPlaces (b ∷ bs) (B at₁ ps₁ .result)) (λ o. bufferPlaces (b ∷ bs) (o .1)) (λ p c. c)
 
   body-in-places : (r : ResourceDef N D) → InPlaces (placeBody O r) [] (λ o. bufferPlaces (r .constant-buffers) (o .sections))
   unfolding placeBody

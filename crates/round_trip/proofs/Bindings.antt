@@ -11,13 +11,14 @@ use Rattle.text.specs.Strings.{cstringAt}
 use Rattle.codes.specs.Table.{known}
 use Rattle.codes.specs.Microsoft.{inputTypes, srvDimensions}
 use Rattle.codes.specs.Flags.{bindingFlagsAllowed}
+use Rattle.reflection.specs.Limits.{chunkLimit}
+use Rattle.reflection.specs.Strides.{bindingStride}
 use Rattle.reflection.specs.declared.Text.{Text}
 use Rattle.reflection.specs.Reflection.{ResourceBinding, mapBinding}
 use Rattle.reflection.specs.Texts.{inChunk}
 use Rattle.reflection.specs.Contents.{Bytes}
-use Rattle.reflection.specs.Refusals.{badInputType, badDimension, badBindingFlags}
 use Rattle.reading.specs.Step.{room}
-use Rattle.reading.specs.Read.{bindingStride, wordIf, bindingFrom, readBinding}
+use Rattle.reading.specs.Read.{wordIf, bindingFrom, readBinding}
 use Rattle.readable.specs.Readable.{nameReadable}
 use Rattle.writing.specs.Step.{Cell, ahead}
 use Rattle.writing.specs.Records.{bindingWords, bindingSize, wordsIf, rows}
@@ -57,7 +58,7 @@ bindings-named cells wide [] (o ∷ os) fine named = absurd named
 bindings-named cells wide (b ∷ bs) [] fine named = absurd named
 bindings-named cells wide (b ∷ bs) (o ∷ os) fine named = (record { fine = fine .0; name = named .0 }, bindings-named cells wide bs os (fine .1) (named .1))
 
-module _ (cells : List (Cell Bytes Bytes)) (short : length cells ≤ 65536) (wide : Bool) where
+module _ (cells : List (Cell Bytes Bytes)) (short : length cells ≤ chunkLimit) (wide : Bool) where
   pub binding-read : (b : ResourceBinding Bytes) (o at : ℕ) → BindingAt cells wide b o → WordsAt cells at (bindingWords wide b o)
       → (p : ResourceBinding Text) × Takes (readBinding (bytesOf cells) wide at) (room 1 0 0 0) p × BindingRead cells b o p
   unfolding readBinding mapBinding bindingWords bindingFrom Words bindingNumbers
@@ -77,11 +78,11 @@ module _ (cells : List (Cell Bytes Bytes)) (short : length cells ≤ 65536) (wid
       } in (
         p,
         then-free _ _ binding-takes
-            (free-then _ _ (check-takes _ 7 (inside-bytes cells at (bindingStride wide) (omega (arith, words-fit cells at (bindingWords wide b o) h, length-bindingWords wide b o))))
-            (free-then _ _ (check-takes _ badInputType (ap (known inputTypes) (word 1 (omega arith)) ∙ there .fine .input-type))
-            (free-then _ _ (check-takes _ badDimension (ap (known srvDimensions) (word 3 (omega arith)) ∙ there .fine .dimension))
-            (free-then _ _ (check-takes _ badBindingFlags (ap bindingFlagsAllowed (word 7 (omega arith)) ∙ there .fine .flags))
-            (free-then _ _ (text-takes 11 _ o (length (b .name)) (ap (cstringAt (bytesOf cells)) (ap (wordAt (bytesOf cells)) (sym (add-zero at)) ∙ word 0 (omega arith)) ∙ there .name .found))
+            (free-then _ _ (check-takes _ _ (inside-bytes cells at (bindingStride wide) (omega (arith, words-fit cells at (bindingWords wide b o) h, length-bindingWords wide b o))))
+            (free-then _ _ (check-takes _ _ (ap (known inputTypes) (word 1 (omega arith)) ∙ there .fine .input-type))
+            (free-then _ _ (check-takes _ _ (ap (known srvDimensions) (word 3 (omega arith)) ∙ there .fine .dimension))
+            (free-then _ _ (check-takes _ _ (ap bindingFlagsAllowed (word 7 (omega arith)) ∙ there .fine .flags))
+            (free-then _ _ (text-takes _ _ o (length (b .name)) (ap (cstringAt (bytesOf cells)) (ap (wordAt (bytesOf cells)) (sym (add-zero at)) ∙ word 0 (omega arith)) ∙ there .name .found))
             (returns _ p (λ i. record {
               name = name;
               input-type = word 1 (omega arith) i;
@@ -125,7 +126,7 @@ module _ (cells : List (Cell Bytes Bytes)) (short : length cells ≤ 65536) (wid
           lt
           (words-split cells at first (wordsIf wide longer) h .0)
 
-      last : (j m : ℕ) → j < 2 → 32 + 4 * j ≡ m → wordIf wide (bytesOf cells) (at + m) ≡ getD (b .space ∷ b .id ∷ []) j 0
+      last : (j m : ℕ) → j < 2 → bindingStride false + 4 * j ≡ m → wordIf wide (bytesOf cells) (at + m) ≡ getD (b .space ∷ b .id ∷ []) j 0
       last j m lt e = longer-word cells wide at first longer j m (there .fine .longer) lt e h
 
   pub bindings-leave : (sm5 : Bool) (bs : List (ResourceBinding Bytes)) → All (ReadableBinding wide) bs → (at : ℕ)

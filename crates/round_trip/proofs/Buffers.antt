@@ -9,16 +9,18 @@ use lib.Dec.{eqb}
 use lib.ListN.{length, getD, length-map}
 use Rattle.words.specs.Words.{wordAt}
 use Rattle.text.specs.Strings.{cstringAt}
+use Rattle.reflection.specs.Limits.{chunkLimit}
+use Rattle.reflection.specs.Strides.{bufferStride, variableStride}
 use Rattle.reflection.specs.declared.Text.{Text}
 use Rattle.reflection.specs.Reflection.{CBufferVariable, CBufferDef, mapVariable, mapBuffer}
 use Rattle.reflection.specs.Texts.{inChunk}
 use Rattle.reflection.specs.Tables.{allVariables}
 use Rattle.reflection.specs.Contents.{Bytes}
 use Rattle.reading.specs.Step.{Room, room}
-use Rattle.reading.specs.Read.{variableStride, readMany, readVariable, bufferFrom, readBuffer}
+use Rattle.reading.specs.Read.{readMany, readVariable, bufferFrom, readBuffer}
 use Rattle.readable.specs.Readable.{nameReadable}
 use Rattle.writing.specs.Step.{Cell, ahead, wordCells}
-use Rattle.writing.specs.Records.{VariableOffsets, variableWords, variableSize, Section, bufferWords, rows}
+use Rattle.writing.specs.Records.{VariableOffsets, variableWords, variableSize, Section, bufferWords, bufferSize, rows}
 use Rattle.writing.specs.Layout.{zip, placeVariables, placeSection, placeSections, placeBufferParts, placeBuffers}
 use Rattle.writing.specs.Canonical.{bytesOracle}
 use Rattle.writing.proofs.Sizes.{rows-length, variable-words-length, buffer-words-length, variables-length, buffer-parts-length}
@@ -86,11 +88,11 @@ buffer-places cells (b ∷ bs) (o ∷ os) (p ∷ ps) h =
     ∙ sym (places-append length (o .1 .offsets) (sectionOffsets os) (map (λ v. v .default-value) (b .variables)) (map (λ v. v .default-value) (allVariables bs)) (h .0 .count ∙ sym (length-map (b .variables) (λ v. v .default-value))))
     ∙ ap (placesOf length (o .1 .offsets ++ sectionOffsets os)) (sym (map-append (λ v. v .default-value) (b .variables) (allVariables bs)))
 
-pub length-bufferWords : (b : CBufferDef Bytes Bytes) (o : ℕ × Section) → 4 * length (bufferWords b o) ≡ 24
+pub length-bufferWords : (b : CBufferDef Bytes Bytes) (o : ℕ × Section) → 4 * length (bufferWords b o) ≡ bufferStride
 unfolding bufferWords
 length-bufferWords b o = refl
 
-module _ (cells : List (Cell Bytes Bytes)) (short : length cells ≤ 65536) (sm5 : Bool) where
+module _ (cells : List (Cell Bytes Bytes)) (short : length cells ≤ chunkLimit) (sm5 : Bool) where
   pub buffer-read : (b : CBufferDef Bytes Bytes) (o : ℕ × Section) (at : ℕ) → BufferAt cells sm5 b o → WordsAt cells at (bufferWords b o)
       → (p : CBufferDef Text Text) × Takes (readBuffer (bytesOf cells) sm5 at) (bufferCost b) p × BufferRead cells b o p
   unfolding readBuffer mapBuffer bufferFrom bufferWords Words bufferNumbers
@@ -102,10 +104,10 @@ module _ (cells : List (Cell Bytes Bytes)) (short : length cells ≤ 65536) (sm5
       let same = zip3-map (mapVariable (textIn cells) (textIn cells)) (mapVariable nameIn defaultIn) (b .variables) (o .1 .offsets) vs (zip3-weaken (λ v o p h. h .is) (b .variables) (o .1 .offsets) vs views) in (
         p,
         then-takes _ (room 0 1 0 0) (total variableCost (b .variables)) buffer-takes
-            (free-then _ _ (check-takes _ 7 (inside-bytes cells at 24 (words-fit cells at row h)))
+            (free-then _ _ (check-takes _ _ (inside-bytes cells at bufferStride (words-fit cells at row h)))
             (then-free _ _ (subst (λ n. Takes (readMany (readVariable (bytesOf cells) sm5) (variableStride sm5) n (wordAt (bytesOf cells) (at + 8))) (total variableCost (b .variables)) vs) (sym (word 1 (omega arith)))
             (subst (λ a. Takes (readMany (readVariable (bytesOf cells) sm5) (variableStride sm5) (length (b .variables)) a) (total variableCost (b .variables)) vs) (sym (word 2 (omega arith))) taken))
-            (then-free _ _ (text-takes 11 _ (o .0) (length (b .name)) (ap (cstringAt (bytesOf cells)) (ap (wordAt (bytesOf cells)) (sym (add-zero at)) ∙ word 0 (omega arith)) ∙ there .name .found))
+            (then-free _ _ (text-takes _ _ (o .0) (length (b .name)) (ap (cstringAt (bytesOf cells)) (ap (wordAt (bytesOf cells)) (sym (add-zero at)) ∙ word 0 (omega arith)) ∙ there .name .found))
             (returns _ p (λ i. record { name = name; size = word 3 (omega arith) i; flags = word 4 (omega arith) i; cb-type = word 5 (omega arith) i; variables = vs }))))),
         record {
           is = λ i. record { name = there .name .is i; size = b .size; flags = b .flags; cb-type = b .cb-type; variables = same i };
@@ -173,12 +175,12 @@ pub record BuffersAt (cells : List (Cell Bytes Bytes)) (sm5 : Bool) (bs : List (
   pub all : Zip (BufferAt cells sm5) bs (placed .1)
   pub stand : WordsAt cells (placed .0) (rows bufferWords bs (placed .1))
 
-module _ (cells : List (Cell Bytes Bytes)) (short : length cells ≤ 65536) (sm5 : Bool) where
+module _ (cells : List (Cell Bytes Bytes)) (short : length cells ≤ chunkLimit) (sm5 : Bool) where
   records-leave : (bs : List (CBufferDef Bytes Bytes)) → All (ReadableBuffer sm5) bs → (at : ℕ)
-      → Leaves cells sm5 at (ahead (length bs * 6) (rows bufferWords bs) (placeBufferParts bytesOracle sm5 bs)) (λ os at′. BuffersAt cells sm5 bs (at, os))
+      → Leaves cells sm5 at (ahead (length bs * bufferSize) (rows bufferWords bs) (placeBufferParts bytesOracle sm5 bs)) (λ os at′. BuffersAt cells sm5 bs (at, os))
   records-leave bs fine at =
-      ahead-leaves at (length bs * 6) (rows bufferWords bs) (placeBufferParts bytesOracle sm5 bs)
-      (λ ps. rows-length bufferWords 6 buffer-words-length bs _ (buffer-parts-length bytesOracle sm5 bs _ ps))
+      ahead-leaves at (length bs * bufferSize) (rows bufferWords bs) (placeBufferParts bytesOracle sm5 bs)
+      (λ ps. rows-length bufferWords bufferSize buffer-words-length bs _ (buffer-parts-length bytesOracle sm5 bs _ ps))
       (placeBufferParts-leaves cells short sm5 bs fine _)
       (λ os at₁ all h. record { all = all; stand = h })
 

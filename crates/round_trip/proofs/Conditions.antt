@@ -12,6 +12,7 @@ use Rattle.text.proofs.Bools.{and-true}
 use Rattle.codes.specs.Table.{known}
 use Rattle.codes.specs.Microsoft.{inputTypes, srvDimensions}
 use Rattle.codes.specs.Flags.{bindingFlagsAllowed}
+use Rattle.reflection.specs.Limits.{bindingRoom, bufferRoom, variableRoom}
 use Rattle.reflection.specs.Reflection.{TypeNumbers, TypeDesc, typeDesc, Members, noMember, member, memberCount, CBufferVariable, CBufferDef, ResourceBinding, ResourceDef, isSm5, isWide, identifierOf, strideOf, slotsOf}
 use Rattle.reflection.specs.Nodes.{Fits, FitsAll, typeLevels}
 use Rattle.reflection.specs.Tables.{allVariables}
@@ -58,7 +59,7 @@ pub record ReadableVariable (sm5 : Bool) (v : CBufferVariable Bytes Bytes) : Typ
 pub record ReadableBuffer (sm5 : Bool) (b : CBufferDef Bytes Bytes) : Type 0 where
   pub name : nameReadable (b .name) ≡ true
   pub words : Words (bufferNumbers b)
-  pub few : length (b .variables) ≤ 2048
+  pub few : length (b .variables) ≤ variableRoom
   pub variables : All (ReadableVariable sm5) (b .variables)
 
 pub record ReadableBinding (wide : Bool) (b : ResourceBinding Bytes) : Type 0 where
@@ -169,7 +170,7 @@ variable-names-append (x ∷ xs) ys =
     ap (λ (l : List Bytes). x .name ∷ (typeNames (x .var-type) ++ l)) (variable-names-append xs ys)
     ∙ ap (λ (l : List Bytes). x .name ∷ l) (sym (append-assoc (typeNames (x .var-type)) (variableNames xs) (variableNames ys)))
 
-readable-buffers : (sm5 : Bool) (bs : List (CBufferDef Bytes Bytes)) → Named (map (λ b. b .name) bs) → length (allVariables bs) ≤ 2048
+readable-buffers : (sm5 : Bool) (bs : List (CBufferDef Bytes Bytes)) → Named (map (λ b. b .name) bs) → length (allVariables bs) ≤ variableRoom
     → All (λ v. variableReadable sm5 v ≡ true) (allVariables bs) → Named (variableNames (allVariables bs)) → BuffersWords bs → All (ReadableBuffer sm5) bs
 unfolding allVariables BuffersWords
 readable-buffers sm5 [] outer few e names words = tt
@@ -208,14 +209,14 @@ readable-parts r e numbers =
     let (variables, room) = and-true (every (variableReadable sm5) vs) (roomKept r) e₄ in
     let (binding-names, buffer-names) = all-append (λ n. nameReadable n ≡ true) (map (λ b. b .name) (r .bindings)) (map (λ b. b .name) (r .constant-buffers)) (every-all nameReadable (outerNames r) outer) in
     let (variable-names, creator) = all-append (λ n. nameReadable n ≡ true) (variableNames vs) (r .creator ∷ []) (every-all nameReadable (innerNames r) inner) in
-    let (_, r₁) = and-true (leb (length (r .bindings)) 1024) _ room in
-    let (_, r₂) = and-true (leb (length (r .constant-buffers)) 64) _ r₁ in
-    let (few, _) = and-true (leb (length vs) 2048) _ r₂ in
+    let (_, r₁) = and-true (leb (length (r .bindings)) bindingRoom) _ room in
+    let (_, r₂) = and-true (leb (length (r .constant-buffers)) bufferRoom) _ r₁ in
+    let (few, _) = and-true (leb (length vs) variableRoom) _ r₂ in
     record {
       version = version;
       words = numbers .header;
       creator = creator .0;
       bindings = readable-bindings wide (r .bindings) (every-all (bindingReadable wide) (r .bindings) bindings) binding-names (numbers .bindings);
-      buffers = readable-buffers sm5 (r .constant-buffers) buffer-names (leb-true (length vs) 2048 few) (every-all (variableReadable sm5) vs variables) variable-names (numbers .buffers);
+      buffers = readable-buffers sm5 (r .constant-buffers) buffer-names (leb-true (length vs) variableRoom few) (every-all (variableReadable sm5) vs variables) variable-names (numbers .buffers);
       room = room;
     }

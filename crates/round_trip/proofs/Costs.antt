@@ -8,6 +8,7 @@ use borrow.Author.Tests.{leb-true}
 use lib.Dec.{leb}
 use lib.ListN.{length, length-append}
 use Rattle.text.proofs.Bools.{and-true}
+use Rattle.reflection.specs.Limits.{bindingRoom, bufferRoom, variableRoom, typeRoom}
 use Rattle.reflection.specs.Reflection.{TypeDesc, typeDesc, Members, noMember, member, CBufferVariable, CBufferDef, ResourceBinding, ResourceDef}
 use Rattle.reflection.specs.Nodes.{nodesOf, nodesOfMembers}
 use Rattle.reflection.specs.Tables.{allVariables}
@@ -66,16 +67,16 @@ pub room-enough : (r : ResourceDef Bytes Bytes) → roomKept r ≡ true → Enou
 unfolding roomKept
 room-enough r e =
     let vs = allVariables (r .constant-buffers) in
-    let (bindings, e₁) = and-true (leb (length (r .bindings)) 1024) (leb (length (r .constant-buffers)) 64 && (leb (length vs) 2048 && leb (nodeCount vs) 4096)) e in
-    let (buffers, e₂) = and-true (leb (length (r .constant-buffers)) 64) (leb (length vs) 2048 && leb (nodeCount vs) 4096) e₁ in
-    let (variables, types) = and-true (leb (length vs) 2048) (leb (nodeCount vs) 4096) e₂ in
+    let (bindings, e₁) = and-true (leb (length (r .bindings)) bindingRoom) (leb (length (r .constant-buffers)) bufferRoom && (leb (length vs) variableRoom && leb (nodeCount vs) typeRoom)) e in
+    let (buffers, e₂) = and-true (leb (length (r .constant-buffers)) bufferRoom) (leb (length vs) variableRoom && leb (nodeCount vs) typeRoom) e₁ in
+    let (variables, types) = and-true (leb (length vs) variableRoom) (leb (nodeCount vs) typeRoom) e₂ in
     let cost : readCost r ≡ room (length (r .bindings)) (length (r .constant-buffers)) (length vs) (nodeCount vs) =
     (λ i. plus (total-bindings (r .bindings) i) (total-buffers (r .constant-buffers) i))
     ∙ same-room (plus (room (length (r .bindings)) 0 0 0) (room 0 (length (r .constant-buffers)) (length vs) (nodeCount vs))) (room (length (r .bindings)) (length (r .constant-buffers)) (length vs) (nodeCount vs))
     (omega arith) (omega arith) (omega arith) (omega arith) in
     subst (λ c. Enough c fullRoom) (sym cost) (record {
-      bindings = leb-true (length (r .bindings)) 1024 bindings;
-      buffers = leb-true (length (r .constant-buffers)) 64 buffers;
-      variables = leb-true (length vs) 2048 variables;
-      types = leb-true (nodeCount vs) 4096 types;
+      bindings = leb-true (length (r .bindings)) bindingRoom bindings;
+      buffers = leb-true (length (r .constant-buffers)) bufferRoom buffers;
+      variables = leb-true (length vs) variableRoom variables;
+      types = leb-true (nodeCount vs) typeRoom types;
     })

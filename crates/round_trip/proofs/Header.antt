@@ -9,6 +9,8 @@ use lib.Dec.{eqb, leb}
 use lib.ListN.{length, getD, length-map}
 use Rattle.words.specs.Words.{wordAt}
 use Rattle.text.proofs.Bools.{and-true}
+use Rattle.reflection.specs.Limits.{chunkLimit, bindingRoom, bufferRoom}
+use Rattle.reflection.specs.Strides.{rd11HeaderSize, bindingStride, bufferStride, variableStride, typeStride, memberStride, rd11Identifier, sm51Identifier}
 use Rattle.reflection.specs.Reflection.{Rd11, noRd11, rd11, ResourceDef, majorOf, isSm5, isWide, identifierOf, strideOf, slotsOf}
 use Rattle.reflection.specs.Contents.{Bytes}
 use Rattle.reading.specs.Read.{rd11Allowed, readRd11}
@@ -19,7 +21,7 @@ use Rattle.writing.specs.Layout.{placeBody}
 use Rattle.writing.specs.Canonical.{bytesOracle, fill}
 use Rattle.round_trip.specs.RoundTrip.{Words}
 use Rattle.round_trip.proofs.Holds.{bytesOf, WordsAt, words-fit}
-use Rattle.round_trip.proofs.Rooms.{noRoom, Takes, free-then, return-takes, returns, check-takes, leb-takes}
+use Rattle.round_trip.proofs.Rooms.{noCost, Takes, free-then, return-takes, returns, check-takes, leb-takes}
 use Rattle.round_trip.proofs.Texts.{NameAt}
 use Rattle.round_trip.proofs.Steps.{Leaves, bind-leaves, return-leaves, pad-leaves}
 use Rattle.round_trip.proofs.Names.{placeInnerName-leaves}
@@ -34,7 +36,7 @@ pub record BodyAt (cells : List (Cell Bytes Bytes)) (r : ResourceDef Bytes Bytes
   pub buffers : BuffersAt cells (isSm5 (r .rd11)) (r .constant-buffers) (o .buffers, o .sections)
   pub creator : NameAt cells (o .creator) (r .creator)
 
-pub placeBody-leaves : (cells : List (Cell Bytes Bytes)) → length cells ≤ 65536 → (r : ResourceDef Bytes Bytes) → Readable r → (at : ℕ)
+pub placeBody-leaves : (cells : List (Cell Bytes Bytes)) → length cells ≤ chunkLimit → (r : ResourceDef Bytes Bytes) → Readable r → (at : ℕ)
     → Leaves cells (isSm5 (r .rd11)) at (placeBody bytesOracle r) (λ o at′. BodyAt cells r at o)
 unfolding placeBody
 placeBody-leaves cells short r fine at =
@@ -45,11 +47,11 @@ placeBody-leaves cells short r fine at =
     return-leaves _ (record { names = names; bindings = bindings; buffers = placed; creator = named })
 
 -- The header's length.
-pub header-size : (sm5 : Bool) → (7 ≤ headerSize sm5) × (headerSize sm5 ≤ 15)
+pub header-size : (sm5 : Bool) → (headerSize false ≤ headerSize sm5) × (headerSize sm5 ≤ headerSize true)
 header-size false = (omega arith, omega arith)
 header-size true = (omega arith, omega arith)
 
-length-rd11Words : (words : Rd11) → 7 + length (rd11Words words) ≡ headerSize (isSm5 words)
+length-rd11Words : (words : Rd11) → headerSize false + length (rd11Words words) ≡ headerSize (isSm5 words)
 unfolding rd11Words
 length-rd11Words noRd11 = refl
 length-rd11Words (rd11 identifier stride slots) = refl
@@ -64,16 +66,16 @@ unfolding rd11Words Words
 rd11-small noRd11 h = tt
 rd11-small (rd11 identifier stride slots) h = (h .0, (omega arith, (omega arith, (h .1 .0, (omega arith, (omega arith, (omega arith, (h .1 .1 .0, tt))))))))
 
-pub header-small : (cells : List (Cell Bytes Bytes)) → length cells ≤ 65536 → (r : ResourceDef Bytes Bytes) (at : ℕ) (o : BodyOffsets) → Readable r → BodyAt cells r at o → Words (headerWords r o)
+pub header-small : (cells : List (Cell Bytes Bytes)) → length cells ≤ chunkLimit → (r : ResourceDef Bytes Bytes) (at : ℕ) (o : BodyOffsets) → Readable r → BodyAt cells r at o → Words (headerWords r o)
 unfolding headerWords Words roomKept
 header-small cells short r at o fine there =
-    let (bindings, e₁) = and-true (leb (length (r .bindings)) 1024) _ (fine .room) in
-    let (buffers, _) = and-true (leb (length (r .constant-buffers)) 64) _ e₁ in (
-      omega (arith, leb-true (length (r .constant-buffers)) 64 buffers),
+    let (bindings, e₁) = and-true (leb (length (r .bindings)) bindingRoom) _ (fine .room) in
+    let (buffers, _) = and-true (leb (length (r .constant-buffers)) bufferRoom) _ e₁ in (
+      omega (arith, leb-true (length (r .constant-buffers)) bufferRoom buffers),
       (
         omega (arith, words-fit cells (o .buffers) _ (there .buffers .stand)),
         (
-          omega (arith, leb-true (length (r .bindings)) 1024 bindings),
+          omega (arith, leb-true (length (r .bindings)) bindingRoom bindings),
           (omega (arith, header-size (isSm5 (r .rd11)) .1), (fine .words .0, (fine .words .1 .0, (omega (arith, there .creator .below-end), rd11-small (r .rd11) (fine .words .1 .1))))),
         ),
       ),
@@ -95,23 +97,25 @@ and-both true b p q = q
 and-both false b p q = p
 
 -- The test for the RD11 words that are allowed, of words with the strides that are written.
-rd11-allowed : (s : Bytes) (version identifier stride slots : ℕ) → versionReadable version (rd11 identifier stride slots) ≡ true → wordAt s 28 ≡ identifier → wordAt s 32 ≡ 60
-    → wordAt s 36 ≡ 24 → wordAt s 40 ≡ stride → wordAt s 44 ≡ 40 → wordAt s 48 ≡ 36 → wordAt s 52 ≡ 12 → rd11Allowed s ≡ true
+rd11-allowed : (s : Bytes) (version identifier stride slots : ℕ) → versionReadable version (rd11 identifier stride slots) ≡ true → wordAt s 28 ≡ identifier → wordAt s 32 ≡ rd11HeaderSize
+    → wordAt s 36 ≡ bufferStride → wordAt s 40 ≡ stride → wordAt s 44 ≡ variableStride true → wordAt s 48 ≡ typeStride true → wordAt s 52 ≡ memberStride → rd11Allowed s ≡ true
 unfolding rd11Allowed versionReadable
 rd11-allowed s version identifier stride slots fine w₂₈ w₃₂ w₃₆ w₄₀ w₄₄ w₄₈ w₅₂ =
-    let (_, both) = and-true (eqb (majorOf version) 5) ((eqb identifier 0x31314452 || eqb identifier 0x25441313) && (eqb stride 32 || eqb stride 40)) fine in
-    let (identifiers, strides) = and-true (eqb identifier 0x31314452 || eqb identifier 0x25441313) (eqb stride 32 || eqb stride 40) both in
-    (λ i. (eqb (w₂₈ i) 0x31314452 || eqb (w₂₈ i) 0x25441313)
-    && (eqb (w₃₂ i) 60 && (eqb (w₃₆ i) 24 && ((eqb (w₄₀ i) 32 || eqb (w₄₀ i) 40) && (eqb (w₄₄ i) 40 && (eqb (w₄₈ i) 36 && eqb (w₅₂ i) 12))))))
+    let (_, both) = and-true (eqb (majorOf version) 5) _ fine in
+    let (identifiers, strides) = and-true (eqb identifier rd11Identifier || eqb identifier sm51Identifier) (eqb stride (bindingStride false) || eqb stride (bindingStride true)) both in
+    (λ i. (eqb (w₂₈ i) rd11Identifier || eqb (w₂₈ i) sm51Identifier)
+    && (eqb (w₃₂ i) rd11HeaderSize && (eqb (w₃₆ i) bufferStride && ((eqb (w₄₀ i) (bindingStride false) || eqb (w₄₀ i) (bindingStride true))
+    && (eqb (w₄₄ i) (variableStride true) && (eqb (w₄₈ i) (typeStride true) && eqb (w₅₂ i) memberStride))))))
     ∙ and-both _ _ identifiers (and-both _ _ strides refl)
 
 -- The RD11 words, which stand after the header's first seven.
 pub rd11-read : (cells : List (Cell Bytes Bytes)) (words : Rd11) (version a b c d e f g : ℕ) → versionReadable version words ≡ true
     → ((j : ℕ) → j < length (a ∷ b ∷ c ∷ d ∷ e ∷ f ∷ g ∷ rd11Words words) → wordAt (bytesOf cells) (0 + 4 * j) ≡ getD (a ∷ b ∷ c ∷ d ∷ e ∷ f ∷ g ∷ rd11Words words) j 0)
-    → WordsAt cells 0 (a ∷ b ∷ c ∷ d ∷ e ∷ f ∷ g ∷ rd11Words words) → Takes (readRd11 (bytesOf cells) (isSm5 words)) noRoom words
+    → WordsAt cells 0 (a ∷ b ∷ c ∷ d ∷ e ∷ f ∷ g ∷ rd11Words words) → Takes (readRd11 (bytesOf cells) (isSm5 words)) noCost words
 unfolding readRd11 rd11Words
 rd11-read cells noRd11 version a b c d e f g fine word h = return-takes noRd11
 rd11-read cells (rd11 identifier stride slots) version a b c d e f g fine word h =
-    free-then _ _ (leb-takes 60 (length (bytesOf cells)) 5 (omega (arith, length-map cells fill, words-fit cells 0 (a ∷ b ∷ c ∷ d ∷ e ∷ f ∷ g ∷ identifier ∷ 60 ∷ 24 ∷ stride ∷ 40 ∷ 36 ∷ 12 ∷ slots ∷ []) h)))
-    (free-then _ _ (check-takes _ 6 (rd11-allowed (bytesOf cells) version identifier stride slots fine (word 7 (omega arith)) (word 8 (omega arith)) (word 9 (omega arith)) (word 10 (omega arith)) (word 11 (omega arith)) (word 12 (omega arith)) (word 13 (omega arith))))
+    free-then _ _ (leb-takes rd11HeaderSize (length (bytesOf cells)) _ (omega (arith, length-map cells fill, words-fit cells 0 _ h)))
+    (free-then _ _ (check-takes _ _ (rd11-allowed (bytesOf cells) version identifier stride slots fine
+    (word 7 (omega arith)) (word 8 (omega arith)) (word 9 (omega arith)) (word 10 (omega arith)) (word 11 (omega arith)) (word 12 (omega arith)) (word 13 (omega arith))))
     (returns _ (rd11 identifier stride slots) (λ i. rd11 (word 7 (omega arith) i) (word 10 (omega arith) i) (word 14 (omega arith) i))))

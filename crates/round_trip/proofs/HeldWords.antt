@@ -7,6 +7,7 @@ use Prim.Native.Nat.{ℕ, zero, suc, _+_, _*_, _/_, _<_}
 use native.Mathlib.Omega.{arith}
 use lib.Dec.{leb, ltb, eqb}
 use lib.ListN.{length, getD, take, drop}
+use Rattle.reflection.specs.Limits.{chunkLimit}
 use Rattle.reflection.specs.declared.Text.{Text}
 use Rattle.reflection.specs.declared.ResourceDef.{ResourceDef as Header}
 use Rattle.reflection.specs.declared.ResourceBinding.{ResourceBinding as BindingRecord}
@@ -231,7 +232,7 @@ pub held-words : (chunk edits : Bytes) (h : Header) (bindings buffers variables 
     → WordTable types → (c : ResourceDef Bytes Bytes) → held chunk edits h bindings buffers variables types ≡ some c → NumbersAreWords c
 unfolding held contents
 held-words chunk edits h bindings buffers variables types header b f v t c e =
-    let (long, e₁) = check-was (leb (length chunk) 65536 && leb (length edits) 65536) _ c e in
+    let (long, e₁) = check-was (leb (length chunk) chunkLimit && leb (length edits) chunkLimit) _ c e in
     let (absent, e₂) = check-was (rd11Absent h) _ c e₁ in
     let (r, decoded, e₃) = then-was (decode h bindings buffers variables types) _ c e₂ in
     let (placed, e₄) = check-was (textsInPlace chunk edits r) _ c e₃ in

@@ -1,6 +1,6 @@
 -- The round trip speaks of something: case V with a default, and case V in major 5, are readable by computation, and so they read back.
 use mathlib.Core.Path.{_≡_, refl}
-use mathlib.Core.Bool.{true}
+use mathlib.Core.Bool.{true, false}
 use mathlib.Core.List.{[]}
 use Prim.Native.Nat.{_≤_}
 use native.Mathlib.Omega.{arith}
@@ -10,6 +10,8 @@ use Rattle.words.specs.Parts
 use Rattle.text.specs.Same as TextSame
 use Rattle.text.specs.Utf8
 use Rattle.text.specs.Strings
+use Rattle.reflection.specs.Limits.{chunkLimit}
+use Rattle.reflection.specs.Strides.{bindingStride, rd11Identifier}
 use Rattle.reflection.specs.Reflection
 use Rattle.reflection.specs.Reflection.{ResourceDef, rd11}
 use Rattle.reflection.specs.Texts
@@ -42,7 +44,7 @@ abbrev withDefault : ResourceDef Bytes Bytes
 withDefault = contents (caseV 108) [] (readV float 108 (inChunk 108 4))
 
 abbrev inMajor5 : ResourceDef Bytes Bytes
-inMajor5 = contents caseV5 [] (globals major5 (rd11 0x31314452 32 0) 176 84 136 0xffffffff float (inChunk 0 0))
+inMajor5 = contents caseV5 [] (globals major5 (rd11 rd11Identifier (bindingStride false) 0) 176 84 136 0xffffffff float (inChunk 0 0))
 
 pub case-V-readable : readableContents withDefault ≡ true
 unfolding computing
@@ -65,7 +67,7 @@ case-V-words = record {
   );
 }
 
-case-V-fits : length (canonical withDefault) ≤ 65536
+case-V-fits : length (canonical withDefault) ≤ chunkLimit
 unfolding computing
 case-V-fits = omega arith
 
@@ -93,7 +95,7 @@ case-V5-words = record {
   );
 }
 
-case-V5-fits : length (canonical inMajor5) ≤ 65536
+case-V5-fits : length (canonical inMajor5) ≤ chunkLimit
 unfolding computing
 case-V5-fits = omega arith
 

@@ -8,13 +8,14 @@ use lib.Dec.{eqb}
 use lib.ListN.{getD}
 use Rattle.words.specs.Words.{wordAt}
 use Rattle.words.proofs.Words.{word-bounded}
+use Rattle.reflection.specs.Strides.{bindingStride, bufferStride, variableStride, memberStride}
 use Rattle.reflection.specs.declared.Text.{Text}
 use Rattle.reflection.specs.Outcome.{ok}
 use Rattle.reflection.specs.Reflection.{TypeDesc, Members, CBufferVariable, CBufferDef, ResourceBinding, ResourceDef, Rd11, majorOf, identifierOf, strideOf, slotsOf, isSm5, isWide}
 use Rattle.reflection.specs.Nodes.{typeLevels}
 use Rattle.reflection.specs.Contents.{Bytes, contents}
 use Rattle.reading.specs.Step.{Room, Step, return, refuse}
-use Rattle.reading.specs.Read.{bindingStride, variableStride, wordIf, readMany, readMembers, numbersFrom, readType, readVariable, variableFrom, readBuffer, bufferFrom, readBinding, bindingFrom, readRd11, readTables, readChunk, read}
+use Rattle.reading.specs.Read.{wordIf, readMany, readMembers, numbersFrom, readType, readVariable, variableFrom, readBuffer, bufferFrom, readBinding, bindingFrom, readRd11, readTables, readChunk, read}
 use Rattle.readable.proofs.Leaves.{Leaves, then-leaves, check-leaves, text-leaves, binding-leaves, buffer-leaves, variable-leaves, type-leaves, many-leaves, value-left}
 use Rattle.round_trip.specs.RoundTrip.{typeNumbers, memberNumbers, variableNumbers, bindingNumbers, bufferNumbers, Words, AllWords, BuffersWords, NumbersAreWords}
 use Rattle.round_trip.proofs.HeldWords.{words-append, map-words}
@@ -38,21 +39,21 @@ module _ (chunk : Bytes) (bytes : (i : ℕ) → getD chunk i 0 < 256) where
   unfolding readMembers return memberNumbers Words
   members-words read h zero at r = tt
   members-words read h (suc n) at r =
-      check-leaves MembersWords _ 7 _ r (λ inside.
-      text-leaves MembersWords 11 _ _ r (λ place k named.
+      check-leaves MembersWords _ _ _ r (λ inside.
+      text-leaves MembersWords _ _ _ r (λ place k named.
       then-leaves TypeWords MembersWords _ _ r (h _ r) (λ t r′ type.
-      then-leaves MembersWords MembersWords _ _ r′ (members-words read h n (at + 12) r′) (λ ms r″ others.
+      then-leaves MembersWords MembersWords _ _ r′ (members-words read h n (at + memberStride) r′) (λ ms r″ others.
       (word (at + 8), words-append (typeNumbers t) (memberNumbers ms) type others)))))
 
   type-words : (sm5 : Bool) (levels : ℕ) (path : List ℕ) (at : ℕ) (r : Room) → Leaves TypeWords (readType chunk sm5 levels path at r)
   unfolding readType numbersFrom return refuse typeNumbers Words
   type-words sm5 zero path at r = tt
   type-words sm5 (suc levels) path at r =
-      check-leaves TypeWords _ 14 _ r (λ fresh.
+      check-leaves TypeWords _ _ _ r (λ fresh.
       type-leaves TypeWords _ r (λ r′ taken.
-      check-leaves TypeWords _ 7 _ r′ (λ fits.
+      check-leaves TypeWords _ _ _ r′ (λ fits.
       then-leaves MembersWords TypeWords _ _ r′ (members-words _ (λ below. type-words sm5 levels (at ∷ path) below) _ _ r′) (λ ms r″ members.
-      text-leaves TypeWords 11 _ _ r″ (λ place k named.
+      text-leaves TypeWords _ _ _ r″ (λ place k named.
       (word-if sm5 (at + 16), (word-if sm5 (at + 20), (word-if sm5 (at + 24), (word-if sm5 (at + 28), members)))))))))
 
   abbrev VariableWords : CBufferVariable Text Text → Room → Type 0
@@ -62,9 +63,9 @@ module _ (chunk : Bytes) (bytes : (i : ℕ) → getD chunk i 0 < 256) where
   unfolding readVariable variableFrom return variableNumbers Words
   variable-words sm5 at r =
       variable-leaves VariableWords _ r (λ r′ taken.
-      check-leaves VariableWords _ 7 _ r′ (λ fits.
-      text-leaves VariableWords 12 _ _ r′ (λ place k default.
-      text-leaves VariableWords 11 _ _ r′ (λ name-place n named.
+      check-leaves VariableWords _ _ _ r′ (λ fits.
+      text-leaves VariableWords _ _ _ r′ (λ place k default.
+      text-leaves VariableWords _ _ _ r′ (λ name-place n named.
       then-leaves TypeWords VariableWords _ _ r′ (type-words sm5 typeLevels [] _ r′) (λ t r″ type.
       (word (at + 4), (word (at + 8), (word (at + 12), (word-if sm5 (at + 24), (word-if sm5 (at + 28), (word-if sm5 (at + 32), (word-if sm5 (at + 36), type))))))))))))
 
@@ -81,16 +82,16 @@ module _ (chunk : Bytes) (bytes : (i : ℕ) → getD chunk i 0 < 256) where
   unfolding readBuffer bufferFrom return bufferNumbers Words
   buffer-words sm5 at r =
       buffer-leaves BufferWords _ r (λ r′ taken.
-      check-leaves BufferWords _ 7 _ r′ (λ fits.
+      check-leaves BufferWords _ _ _ r′ (λ fits.
       then-leaves (λ vs r″. AllWords variableNumbers vs) BufferWords _ _ r′ (variables-words sm5 _ _ r′) (λ vs r″ variables.
-      text-leaves BufferWords 11 _ _ r″ (λ place k named.
+      text-leaves BufferWords _ _ _ r″ (λ place k named.
       ((word (at + 12), (word (at + 16), (word (at + 20), tt))), variables)))))
 
-  buffers-words : (sm5 : Bool) (n at : ℕ) (r : Room) → Leaves (λ bs r′. BuffersWords bs) (readMany (readBuffer chunk sm5) 24 n at r)
+  buffers-words : (sm5 : Bool) (n at : ℕ) (r : Room) → Leaves (λ bs r′. BuffersWords bs) (readMany (readBuffer chunk sm5) bufferStride n at r)
   unfolding BuffersWords
   buffers-words sm5 n at r =
       many-leaves (λ b r r′. BufferWords b r′) (λ bs r r′. BuffersWords bs) (λ r. tt) (λ b bs r r′ r″ one others. (one .0, (one .1, others)))
-      (readBuffer chunk sm5) (buffer-words sm5) 24 n at r
+      (readBuffer chunk sm5) (buffer-words sm5) bufferStride n at r
 
   abbrev BindingWords : ResourceBinding Text → Room → Type 0
   BindingWords b r = Words (bindingNumbers b)
@@ -99,11 +100,11 @@ module _ (chunk : Bytes) (bytes : (i : ℕ) → getD chunk i 0 < 256) where
   unfolding readBinding bindingFrom return bindingNumbers Words
   binding-words wide at r =
       binding-leaves BindingWords _ r (λ r′ taken.
-      check-leaves BindingWords _ 7 _ r′ (λ fits.
-      check-leaves BindingWords _ 8 _ r′ (λ input-type.
-      check-leaves BindingWords _ 9 _ r′ (λ dimension.
-      check-leaves BindingWords _ 10 _ r′ (λ flags.
-      text-leaves BindingWords 11 _ _ r′ (λ place k named.
+      check-leaves BindingWords _ _ _ r′ (λ fits.
+      check-leaves BindingWords _ _ _ r′ (λ input-type.
+      check-leaves BindingWords _ _ _ r′ (λ dimension.
+      check-leaves BindingWords _ _ _ r′ (λ flags.
+      text-leaves BindingWords _ _ _ r′ (λ place k named.
       (word (at + 4), (word (at + 8), (word (at + 12), (word (at + 16), (word (at + 20), (word (at + 24), (word (at + 28), (word-if wide (at + 32), (word-if wide (at + 36), tt)))))))))))))))
 
   bindings-words : (wide : Bool) (n at : ℕ) (r : Room) → Leaves (λ bs r′. AllWords bindingNumbers bs) (readMany (readBinding chunk wide) (bindingStride wide) n at r)
@@ -117,7 +118,7 @@ module _ (chunk : Bytes) (bytes : (i : ℕ) → getD chunk i 0 < 256) where
 
   rd11-words : (five : Bool) (r : Room) → Leaves Rd11Words (readRd11 chunk five r)
   unfolding readRd11 return Words
-  rd11-words true r = check-leaves Rd11Words _ 5 _ r (λ long. check-leaves Rd11Words _ 6 _ r (λ allowed. (word 28, (word 40, (word 56, tt)))))
+  rd11-words true r = check-leaves Rd11Words _ _ _ r (λ long. check-leaves Rd11Words _ _ _ r (λ allowed. (word 28, (word 40, (word 56, tt)))))
   rd11-words false r = (omega arith, (omega arith, (omega arith, tt)))
 
   abbrev DefWords : ResourceDef Text Text → Room → Type 0
@@ -133,10 +134,10 @@ module _ (chunk : Bytes) (bytes : (i : ℕ) → getD chunk i 0 < 256) where
   chunk-words : (r : Room) → Leaves DefWords (readChunk chunk r)
   unfolding readChunk
   chunk-words r =
-      check-leaves DefWords _ 1 _ r (λ long.
-      check-leaves DefWords _ 2 _ r (λ short.
-      check-leaves DefWords _ 3 _ r (λ known.
-      text-leaves DefWords 4 _ _ r (λ place k named.
+      check-leaves DefWords _ _ _ r (λ long.
+      check-leaves DefWords _ _ _ r (λ short.
+      check-leaves DefWords _ _ _ r (λ known.
+      text-leaves DefWords _ _ _ r (λ place k named.
       then-leaves Rd11Words DefWords _ _ r (rd11-words (eqb (majorOf (wordAt chunk 16)) 5) r) (λ words r′ three. tables-words _ words three r′)))))
 
   -- What a chunk of bytes reads as, in whatever room.

@@ -21,8 +21,8 @@ plus c d = room (c .bindings + d .bindings) (c .buffers + d .buffers) (c .variab
 abbrev pub minus : Room → Room → Room
 minus c d = room (c .bindings - d .bindings) (c .buffers - d .buffers) (c .variables - d .variables) (c .types - d .types)
 
-abbrev pub noRoom : Room
-noRoom = room 0 0 0 0
+abbrev pub noCost : Room
+noCost = room 0 0 0 0
 
 pub record Enough (c s : Room) : Type 0 where
   pub bindings : c .bindings ≤ s .bindings
@@ -53,32 +53,32 @@ then-takes {A} {B} {a} {b} {m} f c d p q = record {
 }
 
 -- A step that takes nothing, and then another; a step, and then one that takes nothing.
-pub free-then : {A B : Type 0} {a : A} {b : B} {m : Step A} (f : A → Step B) (d : Room) → Takes m noRoom a → Takes (f a) d b → Takes (m >>= f) d b
+pub free-then : {A B : Type 0} {a : A} {b : B} {m : Step A} (f : A → Step B) (d : Room) → Takes m noCost a → Takes (f a) d b → Takes (m >>= f) d b
 free-then {a} {b} {m} f d p q =
-    subst (λ c. Takes (m >>= f) c b) (same-room (plus noRoom d) d (omega arith) (omega arith) (omega arith) (omega arith)) (then-takes f noRoom d p q)
+    subst (λ c. Takes (m >>= f) c b) (same-room (plus noCost d) d (omega arith) (omega arith) (omega arith) (omega arith)) (then-takes f noCost d p q)
 
-pub then-free : {A B : Type 0} {a : A} {b : B} {m : Step A} (f : A → Step B) (c : Room) → Takes m c a → Takes (f a) noRoom b → Takes (m >>= f) c b
+pub then-free : {A B : Type 0} {a : A} {b : B} {m : Step A} (f : A → Step B) (c : Room) → Takes m c a → Takes (f a) noCost b → Takes (m >>= f) c b
 then-free {a} {b} {m} f c p q =
-    subst (λ d. Takes (m >>= f) d b) (same-room (plus c noRoom) c (omega arith) (omega arith) (omega arith) (omega arith)) (then-takes f c noRoom p q)
+    subst (λ d. Takes (m >>= f) d b) (same-room (plus c noCost) c (omega arith) (omega arith) (omega arith) (omega arith)) (then-takes f c noCost p q)
 
-pub return-takes : {A : Type 0} (a : A) → Takes (return a) noRoom a
+pub return-takes : {A : Type 0} (a : A) → Takes (return a) noCost a
 unfolding return
-return-takes a = record { gives = λ s enough. ap (λ (left : Room). ok (a, left)) (same-room s (minus s noRoom) (omega arith) (omega arith) (omega arith) (omega arith)) }
+return-takes a = record { gives = λ s enough. ap (λ (left : Room). ok (a, left)) (same-room s (minus s noCost) (omega arith) (omega arith) (omega arith) (omega arith)) }
 
 -- The last step of a reading: what was read is what stands there.
-pub returns : {A : Type 0} (a b : A) → a ≡ b → Takes (return a) noRoom b
-returns a b e = subst (λ x. Takes (return x) noRoom b) (sym e) (return-takes b)
+pub returns : {A : Type 0} (a b : A) → a ≡ b → Takes (return a) noCost b
+returns a b e = subst (λ x. Takes (return x) noCost b) (sym e) (return-takes b)
 
-pub check-takes : (t : Bool) (n : ℕ) → t ≡ true → Takes (check t n) noRoom tt
+pub check-takes : (t : Bool) (n : ℕ) → t ≡ true → Takes (check t n) noCost tt
 unfolding check
-check-takes t n e = subst (λ u. Takes (check u n) noRoom tt) (sym e) (return-takes tt)
+check-takes t n e = subst (λ u. Takes (check u n) noCost tt) (sym e) (return-takes tt)
 
-pub leb-takes : (a b n : ℕ) → a ≤ b → Takes (check (leb a b) n) noRoom tt
+pub leb-takes : (a b n : ℕ) → a ≤ b → Takes (check (leb a b) n) noCost tt
 leb-takes a b n h = check-takes (leb a b) n (le-leb a b h)
 
-pub text-takes : (n : ℕ) (x : Found) (place k : ℕ) → x ≡ At place k → Takes (textOr n x) noRoom (inChunk place k)
+pub text-takes : (n : ℕ) (x : Found) (place k : ℕ) → x ≡ At place k → Takes (textOr n x) noCost (inChunk place k)
 unfolding textOr
-text-takes n x place k e = subst (λ y. Takes (textOr n y) noRoom (inChunk place k)) (sym e) (return-takes (inChunk place k))
+text-takes n x place k e = subst (λ y. Takes (textOr n y) noCost (inChunk place k)) (sym e) (return-takes (inChunk place k))
 
 one-taken : (n : ℕ) (left : ℕ → Room) → 1 ≤ n → oneLess n left ≡ ok (tt, left (n - 1))
 one-taken zero left h = absurd (omega arith)

@@ -11,12 +11,14 @@ use lib.Dec.{eqb}
 use lib.ListN.{length, getD, length-map}
 use Rattle.words.specs.Words.{wordAt}
 use Rattle.text.specs.Strings.{cstringAt}
+use Rattle.reflection.specs.Limits.{chunkLimit}
+use Rattle.reflection.specs.Strides.{headerSize as headerBytes, bindingStride, bufferStride}
 use Rattle.reflection.specs.declared.Text.{Text}
 use Rattle.reflection.specs.Reflection.{ResourceDef, mapBinding, mapBuffer, mapDef, majorOf, isSm5, isWide}
 use Rattle.reflection.specs.Texts.{inChunk}
 use Rattle.reflection.specs.Contents.{Bytes, contents, defaultsOf}
 use Rattle.reading.specs.Step.{fullRoom}
-use Rattle.reading.specs.Read.{bindingStride, readMany, readBinding, readBuffer, readRd11, readTables, readChunk, withoutRoom, read}
+use Rattle.reading.specs.Read.{readMany, readBinding, readBuffer, readRd11, readTables, readChunk, withoutRoom, read}
 use Rattle.readable.specs.Readable.{readableContents}
 use Rattle.writing.specs.Step.{Cell, pools, Placed, wordCells, ahead}
 use Rattle.writing.specs.Records.{BodyOffsets, headerWords, headerSize, bindingWords, bufferWords}
@@ -25,7 +27,7 @@ use Rattle.writing.specs.Canonical.{bytesOracle, fill, canonical}
 use Rattle.round_trip.specs.RoundTrip.{NumbersAreWords, cellsIn, cellsOfName, cellsOfDefault, defaultPlaces, Restored}
 use Rattle.round_trip.proofs.Lists.{zip3-weaken, zip3-map}
 use Rattle.round_trip.proofs.Holds.{Holds, holds-left, holds-right, bytesOf, length-wordCells, WordsAt, row-word, words-fit}
-use Rattle.round_trip.proofs.Rooms.{noRoom, Takes, then-takes, free-then, then-free, returns, check-takes, leb-takes, text-takes}
+use Rattle.round_trip.proofs.Rooms.{noCost, Takes, then-takes, free-then, then-free, returns, check-takes, leb-takes, text-takes}
 use Rattle.round_trip.proofs.Texts.{textIn, nameIn, defaultIn}
 use Rattle.round_trip.proofs.Steps.{After}
 use Rattle.round_trip.proofs.Conditions.{Readable, readable-parts}
@@ -36,7 +38,7 @@ use Rattle.round_trip.proofs.Maps.{mapDef-twice, mapDef-same}
 use Rattle.round_trip.proofs.Costs.{bindingCost, readCost, room-enough}
 use Rattle.round_trip.proofs.Header.{BodyAt, placeBody-leaves, header-size, length-headerWords, header-small, major-known, major-five, rd11-read}
 
-module _ (r : ResourceDef Bytes Bytes) (fine : Readable r) (short : length (layout bytesOracle r .cells) ≤ 65536) where
+module _ (r : ResourceDef Bytes Bytes) (fine : Readable r) (short : length (layout bytesOracle r .cells) ≤ chunkLimit) where
   abbrev cells : List (Cell Bytes Bytes)
   cells = layout bytesOracle r .cells
 
@@ -95,7 +97,7 @@ module _ (r : ResourceDef Bytes Bytes) (fine : Readable r) (short : length (layo
   chunk-read =
       let (bs, takes-bs, views-bs) = many-read cells (bindingWords wide) (bindingStride wide) (length-bindingWords wide) (readBinding out wide) bindingCost (BindingAt cells wide) (BindingRead cells)
       (binding-read cells short wide) (r .bindings) (there .names) start (there .bindings .all) (there .bindings .stand) in
-      let (cs, takes-cs, views-cs) = many-read cells bufferWords 24 length-bufferWords (readBuffer out sm5) bufferCost (BufferAt cells sm5) (BufferRead cells)
+      let (cs, takes-cs, views-cs) = many-read cells bufferWords bufferStride length-bufferWords (readBuffer out sm5) bufferCost (BufferAt cells sm5) (BufferRead cells)
       (buffer-read cells short sm5) (r .constant-buffers) (body .result .sections) (body .result .buffers) (there .buffers .all) (there .buffers .stand) in
       let creator : Text = inChunk (body .result .creator) (length (r .creator)) in
       let p : ResourceDef Text Text = record { target-version = r .target-version; compile-flags = r .compile-flags; rd11 = r .rd11; creator = creator; bindings = bs; constant-buffers = cs } in
@@ -104,18 +106,19 @@ module _ (r : ResourceDef Bytes Bytes) (fine : Readable r) (short : length (layo
       record {
         found = p;
         takes =
-            free-then _ _ (leb-takes 28 (length out) 1 (omega (arith, length-map cells fill, words-fit cells 0 header header-stands, length-headerWords r (body .result), header-size sm5 .0)))
-            (free-then _ _ (leb-takes (length out) 65536 2 (omega (arith, length-map cells fill)))
-            (free-then _ _ (check-takes _ 3 (ap (λ (v : ℕ). eqb (majorOf v) 4 || eqb (majorOf v) 5) (word 4 (omega arith)) ∙ major-known (r .rd11) (r .target-version) (fine .version)))
-            (free-then _ _ (text-takes 4 _ (body .result .creator) (length (r .creator)) (ap (cstringAt out) (word 6 (omega arith)) ∙ there .creator .found))
-            (free-then _ _ (subst (λ b. Takes (readRd11 out b) noRoom (r .rd11)) (sym (ap (λ (v : ℕ). eqb (majorOf v) 5) (word 4 (omega arith)) ∙ major-five (r .rd11) (r .target-version) (fine .version)))
+            free-then _ _ (leb-takes headerBytes (length out) _ (omega (arith, length-map cells fill, words-fit cells 0 header header-stands, length-headerWords r (body .result), header-size sm5 .0)))
+            (free-then _ _ (leb-takes (length out) chunkLimit _ (omega (arith, length-map cells fill)))
+            (free-then _ _ (check-takes _ _ (ap (λ (v : ℕ). eqb (majorOf v) 4 || eqb (majorOf v) 5) (word 4 (omega arith)) ∙ major-known (r .rd11) (r .target-version) (fine .version)))
+            (free-then _ _ (text-takes _ _ (body .result .creator) (length (r .creator)) (ap (cstringAt out) (word 6 (omega arith)) ∙ there .creator .found))
+            (free-then _ _ (subst (λ b. Takes (readRd11 out b) noCost (r .rd11))
+            (sym (ap (λ (v : ℕ). eqb (majorOf v) 5) (word 4 (omega arith)) ∙ major-five (r .rd11) (r .target-version) (fine .version)))
             (rd11-read cells (r .rd11) (r .target-version) _ _ _ _ _ _ _ (fine .version) word header-stands))
             (then-takes _ (total bindingCost (r .bindings)) (total bufferCost (r .constant-buffers))
             (subst (λ n. Takes (readMany (readBinding out wide) (bindingStride wide) n (wordAt out 12)) (total bindingCost (r .bindings)) bs) (sym (word 2 (omega arith)))
             (subst (λ a. Takes (readMany (readBinding out wide) (bindingStride wide) (length (r .bindings)) a) (total bindingCost (r .bindings)) bs) (zero-add (4 * headerSize sm5) ∙ sym (word 3 (omega arith))) takes-bs))
             (then-free _ _
-            (subst (λ n. Takes (readMany (readBuffer out sm5) 24 n (wordAt out 4)) (total bufferCost (r .constant-buffers)) cs) (sym (word 0 (omega arith)))
-            (subst (λ a. Takes (readMany (readBuffer out sm5) 24 (length (r .constant-buffers)) a) (total bufferCost (r .constant-buffers)) cs) (sym (word 1 (omega arith))) takes-cs))
+            (subst (λ n. Takes (readMany (readBuffer out sm5) bufferStride n (wordAt out 4)) (total bufferCost (r .constant-buffers)) cs) (sym (word 0 (omega arith)))
+            (subst (λ a. Takes (readMany (readBuffer out sm5) bufferStride (length (r .constant-buffers)) a) (total bufferCost (r .constant-buffers)) cs) (sym (word 1 (omega arith))) takes-cs))
             (returns _ p (λ i. record { target-version = word 4 (omega arith) i; compile-flags = word 5 (omega arith) i; rd11 = r .rd11; creator = creator; bindings = bs; constant-buffers = cs }))))))));
         is = λ i. record { target-version = r .target-version; compile-flags = r .compile-flags; rd11 = r .rd11; creator = there .creator .is i; bindings = same-bs i; constant-buffers = same-cs i };
         places = buffer-places cells (r .constant-buffers) (body .result .sections) cs views-cs;
@@ -152,6 +155,6 @@ module _ (r : ResourceDef Bytes Bytes) (fine : Readable r) (short : length (layo
         again = ap canonical restored;
       }
 
-pub round-trip : (r : ResourceDef Bytes Bytes) → readableContents r ≡ true → NumbersAreWords r → length (canonical r) ≤ 65536 → Restored r
+pub round-trip : (r : ResourceDef Bytes Bytes) → readableContents r ≡ true → NumbersAreWords r → length (canonical r) ≤ chunkLimit → Restored r
 unfolding canonical
 round-trip r readable words short = chunk-restored r (readable-parts r readable words) (omega (arith, length-map (layout bytesOracle r .cells) fill))

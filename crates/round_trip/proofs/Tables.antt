@@ -10,11 +10,11 @@ use Rattle.writing.specs.Step.{Cell}
 use Rattle.writing.specs.Records.{rows}
 use Rattle.round_trip.proofs.Lists.{Zip, Zip3}
 use Rattle.round_trip.proofs.Holds.{WordsAt, words-split}
-use Rattle.round_trip.proofs.Rooms.{noRoom, plus, Takes, then-takes, then-free, return-takes}
+use Rattle.round_trip.proofs.Rooms.{noCost, plus, Takes, then-takes, then-free, return-takes}
 
 -- The room that records take.
 abbrev pub total : {A : Type 0} → (A → Room) → List A → Room
-total cost [] = noRoom
+total cost [] = noCost
 total cost (x ∷ xs) = plus (cost x) (total cost xs)
 
 -- `row` makes the words of a record from what is written and its offsets, `read` reads one record, `View` says what is read.

@@ -10,12 +10,14 @@ use lib.ListN.{length, getD}
 use Rattle.words.specs.Words.{wordAt, lowAt, highAt}
 use Rattle.text.specs.declared.Found.the-variants.{At}
 use Rattle.text.specs.Strings.{cstringAt}
+use Rattle.reflection.specs.Limits.{chunkLimit}
+use Rattle.reflection.specs.Strides.{typeStride, memberStride}
 use Rattle.reflection.specs.Reflection.{TypeNumbers, TypeDesc, typeDesc, Members, noMember, member, memberCount, mapType, mapMembers}
 use Rattle.reflection.specs.Nodes.{Fits, FitsAll}
 use Rattle.reflection.specs.Texts.{inChunk}
 use Rattle.reflection.specs.Contents.{Bytes}
 use Rattle.reading.specs.Step.{room}
-use Rattle.reading.specs.Read.{typeStride, wordIf, onPath, readMembers, cstringOrEmpty, typeNameAt, numbersFrom, readType}
+use Rattle.reading.specs.Read.{wordIf, onPath, readMembers, cstringOrEmpty, typeNameAt, numbersFrom, readType}
 use Rattle.writing.specs.Step.{Cell}
 use Rattle.writing.specs.Records.{halves, typeWords, wordsIf}
 use Rattle.round_trip.specs.RoundTrip.{Words}
@@ -63,7 +65,7 @@ module _ (cells : List (Cell Bytes Bytes)) (sm5 : Bool) (k : TypeNumbers) (count
       row-word cells o first j (halves-small _ _ (fine .class) (fine .var-type), (halves-small _ _ (fine .rows) (fine .columns), (halves-small _ _ (fine .elements) few, (small-members, tt)))) lt
       (words-split cells o first (wordsIf sm5 longer) row .0)
 
-  longer-is : (j m : ℕ) → j < 5 → 16 + 4 * j ≡ m → wordIf sm5 (bytesOf cells) (o + m) ≡ getD longer j 0
+  longer-is : (j m : ℕ) → j < 5 → typeStride false + 4 * j ≡ m → wordIf sm5 (bytesOf cells) (o + m) ≡ getD longer j 0
   longer-is j m lt e = longer-word cells sm5 o first longer j m (fine .extra0, (fine .extra1, (fine .extra2, (fine .extra3, (small-name, tt))))) lt e row
 
   word-0 : wordAt (bytesOf cells) o ≡ halves (k .class) (k .var-type)
@@ -99,7 +101,7 @@ module _ (cells : List (Cell Bytes Bytes)) (sm5 : Bool) (k : TypeNumbers) (count
   descriptor-fits : o + typeStride sm5 ≤ length cells
   descriptor-fits = omega (arith, words-fit cells o (typeWords sm5 k count members name) stands, length-typeWords sm5 k count members name)
 
-name-small : (cells : List (Cell Bytes Bytes)) (sm5 : Bool) (o : ℕ) (n : Bytes) → length cells ≤ 65536 → NamedIf sm5 n → NameOrEmpty cells o n → Longer sm5 o
+name-small : (cells : List (Cell Bytes Bytes)) (sm5 : Bool) (o : ℕ) (n : Bytes) → length cells ≤ chunkLimit → NamedIf sm5 n → NameOrEmpty cells o n → Longer sm5 o
 name-small cells false o n short named h = h .empty named
 name-small cells true o n short named h = omega (arith, h .small)
 
@@ -132,20 +134,21 @@ no-members cells sm5 noMember [] o e h = refl
 no-members cells sm5 noMember (x ∷ ws) o e h = absurd h
 no-members cells sm5 (member n f t ms) ws o e h = absurd (omega (arith, e))
 
-module _ (cells : List (Cell Bytes Bytes)) (sm5 : Bool) (short : length cells ≤ 65536) where
+module _ (cells : List (Cell Bytes Bytes)) (sm5 : Bool) (short : length cells ≤ chunkLimit) where
   -- One member record, and what is read for its type and for the other members.
   member-read : (levels : ℕ) (path : List ℕ) (n : Bytes) (f : ℕ) (t : TypeDesc Bytes) (ms : Members Bytes) (name type at : ℕ) (ws : List ℕ) → NameAt cells name n → type < 4294967296 → f < 4294967296
       → WordsAt cells at (name ∷ type ∷ f ∷ ws) → Reads (readType (bytesOf cells) sm5 levels path type) (room 0 0 0 (typeSize t)) (mapType (textIn cells)) (mapType nameIn t)
-      → (WordsAt cells (at + 12) ws
-      → Reads (readMembers (readType (bytesOf cells) sm5 levels path) (bytesOf cells) (memberCount ms) (at + 12)) (room 0 0 0 (membersSize ms)) (mapMembers (textIn cells)) (mapMembers nameIn ms))
+      → (WordsAt cells (at + memberStride) ws
+      → Reads (readMembers (readType (bytesOf cells) sm5 levels path) (bytesOf cells) (memberCount ms) (at + memberStride))
+      (room 0 0 0 (membersSize ms)) (mapMembers (textIn cells)) (mapMembers nameIn ms))
       → Reads (readMembers (readType (bytesOf cells) sm5 levels path) (bytesOf cells) (suc (memberCount ms)) at) (room 0 0 0 (typeSize t + membersSize ms)) (mapMembers (textIn cells)) (mapMembers nameIn (member n f t ms))
   unfolding readMembers mapMembers
   member-read levels path n f t ms name type at ws named small-type small-offset h read-type read-others =
       record {
         found = member (inChunk name (length n)) f (read-type .found) (others .found);
         takes =
-            free-then _ _ (check-takes _ 7 (inside-bytes cells at 12 (omega (arith, words-fit cells at (name ∷ type ∷ f ∷ ws) h))))
-            (free-then _ _ (text-takes 11 _ name (length n) (ap (cstringAt (bytesOf cells)) (first .0) ∙ named .found))
+            free-then _ _ (check-takes _ _ (inside-bytes cells at memberStride (omega (arith, words-fit cells at (name ∷ type ∷ f ∷ ws) h))))
+            (free-then _ _ (text-takes _ _ name (length n) (ap (cstringAt (bytesOf cells)) (first .0) ∙ named .found))
             (then-takes _ (room 0 0 0 (typeSize t)) (room 0 0 0 (membersSize ms)) (subst (λ x. Takes (readType (bytesOf cells) sm5 levels path x) (room 0 0 0 (typeSize t)) (read-type .found)) (sym (second .0)) (read-type .takes))
             (then-free _ _ (others .takes) (returns _ _ (ap (λ (x : ℕ). member (inChunk name (length n)) x (read-type .found) (others .found)) offset)))));
         is = λ i. member (named .is i) f (read-type .is i) (others .is i);
@@ -163,8 +166,9 @@ module _ (cells : List (Cell Bytes Bytes)) (sm5 : Bool) (short : length cells �
       offset : wordAt (bytesOf cells) (at + 8) ≡ f
       offset = ap (wordAt (bytesOf cells)) (sym (add-assoc at 4 4)) ∙ third .0
 
-      others : Reads (readMembers (readType (bytesOf cells) sm5 levels path) (bytesOf cells) (memberCount ms) (at + 12)) (room 0 0 0 (membersSize ms)) (mapMembers (textIn cells)) (mapMembers nameIn ms)
-      others = read-others (subst (λ a. WordsAt cells a ws) (let e : at + 4 + 4 + 4 ≡ at + 12 = omega arith in e) (third .1))
+      others : Reads (readMembers (readType (bytesOf cells) sm5 levels path) (bytesOf cells) (memberCount ms) (at + memberStride))
+          (room 0 0 0 (membersSize ms)) (mapMembers (textIn cells)) (mapMembers nameIn ms)
+      others = read-others (subst (λ a. WordsAt cells a ws) (let e : at + 4 + 4 + 4 ≡ at + memberStride = omega arith in e) (third .1))
 
   members-read-back : (o levels : ℕ) (path : List ℕ) → All (λ q. o < q) path → (ms : Members Bytes) (ws : List ℕ) (at : ℕ) → ReadableMembers sm5 ms → FitsAll ms levels
       → MembersAt cells sm5 ms ws o → WordsAt cells at ws
@@ -178,7 +182,7 @@ module _ (cells : List (Cell Bytes Bytes)) (sm5 : Bool) (short : length cells �
   members-read-back o levels path above (member n f t ms) (name ∷ type ∷ offset ∷ ws) at fine fits all h =
       member-read levels (o ∷ path) n f t ms name type at ws (all .0) (omega (arith, all .1 .below-end)) (fine .0) (subst (λ x. WordsAt cells at (name ∷ type ∷ x ∷ ws)) (all .3) h)
       (all .1 .reads levels (o ∷ path) (fits .0) (all .2, all-weaken (λ q lt. omega (arith, all .2)) path above))
-      (λ next. members-read-back o levels path above ms ws (at + 12) (fine .2) (fits .1) (all .4) next)
+      (λ next. members-read-back o levels path above ms ws (at + memberStride) (fine .2) (fits .1) (all .4) next)
 
   -- The descriptor at o, its member records at `members`, its name at `name`.
   pub type-at : (o members name : ℕ) (k : TypeNumbers) (n : Bytes) (ms : Members Bytes) (ws : List ℕ) → ReadableType sm5 (typeDesc k n ms) → members ≤ o → MembersAt cells sm5 ms ws o
@@ -215,12 +219,12 @@ module _ (cells : List (Cell Bytes Bytes)) (sm5 : Bool) (short : length cells �
           record {
             found = typeDesc k (inChunk name (length n)) (ps .found);
             takes =
-                free-then _ _ (check-takes (not (onPath o path)) 14 (ap not (below-not-on-path o path above)))
+                free-then _ _ (check-takes (not (onPath o path)) _ (ap not (below-not-on-path o path above)))
                 (then-takes _ (room 0 0 0 1) (room 0 0 0 (membersSize ms)) type-takes
-                (free-then _ _ (check-takes _ 7 (inside-bytes cells o (typeStride sm5) fits-here))
+                (free-then _ _ (check-takes _ _ (inside-bytes cells o (typeStride sm5) fits-here))
                 (then-free _ _ (subst (λ x. Takes (readMembers (readType (bytesOf cells) sm5 levels (o ∷ path)) (bytesOf cells) x (wordAt (bytesOf cells) (o + 12))) (room 0 0 0 (membersSize ms)) (ps .found)) (sym count)
                 (subst (λ x. Takes (readMembers (readType (bytesOf cells) sm5 levels (o ∷ path)) (bytesOf cells) (memberCount ms) x) (room 0 0 0 (membersSize ms)) (ps .found)) (sym where-members) (ps .takes)))
-                (then-free _ _ (text-takes 11 _ name (length n) (type-name-found cells sm5 o name n (fine .1) named where-name))
+                (then-free _ _ (text-takes _ _ name (length n) (type-name-found cells sm5 o name n (fine .1) named where-name))
                 (returns _ _ (ap (λ (x : TypeNumbers). typeDesc x (inChunk name (length n)) (ps .found)) numbers))))));
             is = λ i. typeDesc k (named .is i) (ps .is i);
           }

@@ -11,6 +11,7 @@ use lib.Dec.{eqb}
 use Rattle.text.specs.Same.{sameBytes}
 use Rattle.text.proofs.Bools.{and-true}
 use Rattle.text.proofs.SameBytes.{same-bytes-equal}
+use Rattle.reflection.specs.Limits.{chunkLimit}
 use Rattle.reflection.specs.Reflection.{TypeNumbers, TypeDesc, typeDesc, Members, noMember, member, memberCount}
 use Rattle.reflection.specs.Contents.{Bytes}
 use Rattle.reading.specs.Read.{typeStride}
@@ -70,7 +71,7 @@ mutual
       let d = same-members-equal ms ms′ others in
       λ i. member (a i) (b i) (c i) (d i)
 
-module _ (cells : List (Cell Bytes Bytes)) (short : length cells ≤ 65536) (sm5 : Bool) where
+module _ (cells : List (Cell Bytes Bytes)) (short : length cells ≤ chunkLimit) (sm5 : Bool) where
   -- The type lies at o, below the cursor.
   abbrev TypeBelow : TypeDesc Bytes → ℕ → ℕ → Type 0
   TypeBelow t o at = TypeAt cells sm5 o t × (o < at)

@@ -9,13 +9,15 @@ use native.Mathlib.Nat.{add-zero}
 use lib.ListN.{length, getD}
 use Rattle.words.specs.Words.{wordAt}
 use Rattle.text.specs.Strings.{cstringAt}
+use Rattle.reflection.specs.Limits.{chunkLimit}
+use Rattle.reflection.specs.Strides.{variableStride}
 use Rattle.reflection.specs.declared.Text.{Text}
 use Rattle.reflection.specs.Reflection.{CBufferVariable, mapVariable}
 use Rattle.reflection.specs.Nodes.{typeLevels}
 use Rattle.reflection.specs.Texts.{inChunk}
 use Rattle.reflection.specs.Contents.{Bytes}
 use Rattle.reading.specs.Step.{Room, room}
-use Rattle.reading.specs.Read.{variableStride, wordIf, readType, defaultAt, variableFrom, readVariable}
+use Rattle.reading.specs.Read.{wordIf, readType, defaultAt, variableFrom, readVariable}
 use Rattle.writing.specs.Step.{Cell}
 use Rattle.writing.specs.Records.{VariableOffsets, variableWords, wordsIf}
 use Rattle.writing.specs.Layout.{placeVariable, placeVariables}
@@ -50,7 +52,7 @@ pub record VariableRead (cells : List (Cell Bytes Bytes)) (v : CBufferVariable B
   pub is : mapVariable (textIn cells) (textIn cells) p ≡ mapVariable nameIn defaultIn v
   pub default : p .default-value ≡ inChunk (o .default) (length (v .default-value))
 
-module _ (cells : List (Cell Bytes Bytes)) (short : length cells ≤ 65536) (sm5 : Bool) where
+module _ (cells : List (Cell Bytes Bytes)) (short : length cells ≤ chunkLimit) (sm5 : Bool) where
   pub variable-read : (v : CBufferVariable Bytes Bytes) (o : VariableOffsets) (at : ℕ) → VariableAt cells sm5 v o → WordsAt cells at (variableWords sm5 v o)
       → (p : CBufferVariable Text Text) × Takes (readVariable (bytesOf cells) sm5 at) (variableCost v) p × VariableRead cells v o p
   unfolding readVariable mapVariable variableWords variableFrom Words
@@ -72,9 +74,10 @@ module _ (cells : List (Cell Bytes Bytes)) (short : length cells ≤ 65536) (sm5
       } in (
         p,
         then-takes _ (room 0 0 1 0) (room 0 0 0 (typeSize (v .var-type))) variable-takes
-            (free-then _ _ (check-takes _ 7 (inside-bytes cells at (variableStride sm5) (omega (arith, words-fit cells at (variableWords sm5 v o) h, length-variableWords sm5 v o))))
-            (free-then _ _ (text-takes 12 _ (o .default) (length (v .default-value)) ((λ i. defaultAt (bytesOf cells) (word 5 (omega arith) i) (word 2 (omega arith) i)) ∙ there .default .found (v .size) (there .fine .default)))
-            (free-then _ _ (text-takes 11 _ (o .name) (length (v .name)) (ap (cstringAt (bytesOf cells)) word-0 ∙ there .name .found))
+            (free-then _ _ (check-takes _ _ (inside-bytes cells at (variableStride sm5) (omega (arith, words-fit cells at (variableWords sm5 v o) h, length-variableWords sm5 v o))))
+            (free-then _ _ (text-takes _ _ (o .default) (length (v .default-value))
+            ((λ i. defaultAt (bytesOf cells) (word 5 (omega arith) i) (word 2 (omega arith) i)) ∙ there .default .found (v .size) (there .fine .default)))
+            (free-then _ _ (text-takes _ _ (o .name) (length (v .name)) (ap (cstringAt (bytesOf cells)) word-0 ∙ there .name .found))
             (then-free _ _ (subst (λ w. Takes (readType (bytesOf cells) sm5 typeLevels [] w) (room 0 0 0 (typeSize (v .var-type))) (type .found)) (sym (word 4 (omega arith))) (type .takes))
             (returns _ p (λ i. record {
               name = name;
@@ -121,7 +124,7 @@ module _ (cells : List (Cell Bytes Bytes)) (short : length cells ≤ 65536) (sm5
       word-0 : wordAt (bytesOf cells) at ≡ o .name
       word-0 = ap (wordAt (bytesOf cells)) (sym (add-zero at)) ∙ word 0 (omega arith)
 
-      slot : (j m : ℕ) → j < 4 → 24 + 4 * j ≡ m
+      slot : (j m : ℕ) → j < 4 → variableStride false + 4 * j ≡ m
           → wordIf sm5 (bytesOf cells) (at + m) ≡ getD (v .texture-start ∷ v .texture-size ∷ v .sampler-start ∷ v .sampler-size ∷ []) j 0
       slot j m lt e = longer-word cells sm5 at first longer j m (there .fine .slots) lt e h
 

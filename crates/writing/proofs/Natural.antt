@@ -9,7 +9,7 @@ use lib.ListN.{length-map}
 use Rattle.reflection.specs.Reflection.{TypeNumbers, TypeDesc, typeDesc, Members, noMember, member, memberCount, CBufferVariable, CBufferDef, ResourceDef, isSm5, isWide, mapType, mapMembers, mapBinding, mapVariable, mapBuffer, mapDef}
 use Rattle.reflection.specs.Contents.{Bytes}
 use Rattle.writing.specs.Step.{Cell, byte, nameByte, defaultByte, Oracle, pools, Step, addType, cellsOf}
-use Rattle.writing.specs.Records.{typeWords, variableWords, variableSize, bufferWords, bindingWords, bindingSize, headerWords, rd11Words, headerSize, BodyOffsets}
+use Rattle.writing.specs.Records.{typeWords, variableWords, variableSize, bufferWords, bufferSize, bindingWords, bindingSize, headerWords, rd11Words, headerSize, BodyOffsets}
 use Rattle.writing.specs.Layout.{zip, nameCells, placeOuterName, placeInnerName, placeDefault, writeType, placeType, placeMembers, placeVariable, placeVariables, placeSection, placeSections, placeOuterNames, placeBufferParts, placeBuffers, placeBody, placeChunk, layout}
 use Rattle.writing.specs.Canonical.{bytesOracle, fill, canonical, through, mapCell, fillThrough}
 use Rattle.writing.proofs.NaturalSteps.{mapPlaced, Natural, find-map, find-type-map, member-count-map, rows-map, map-cells-of, bind-natural, return-natural, append-natural, remember-natural, remember-if-natural, pad-natural, words-natural, ahead-natural, below-natural, once-natural, unless-empty-natural}
@@ -114,7 +114,7 @@ module _ {N D M E : Type 0} (f : N → M) (g : D → E) (O : Oracle M E) where
   buffers-natural sm5 (b ∷ bs) =
       bind-natural f g (pad-natural f g) λ start.
       bind-natural f g
-      (ahead-natural f g (ap (λ (n : ℕ). n * 6) (length-map (b ∷ bs) (mapBuffer f g)))
+      (ahead-natural f g (ap (λ (n : ℕ). n * bufferSize) (length-map (b ∷ bs) (mapBuffer f g)))
       (rows-map bufferWords bufferWords (mapBuffer f g) (λ c o. ap (λ (n : ℕ). o .0 ∷ n ∷ o .1 .start ∷ c .size ∷ c .flags ∷ c .cb-type ∷ []) (length-map (c .variables) (mapVariable f g))) (b ∷ bs))
       (buffer-parts-natural sm5 (b ∷ bs))) λ sections.
       return-natural f g (start, sections)

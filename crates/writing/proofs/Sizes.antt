@@ -10,7 +10,7 @@ use lib.ListN.{length, length-append, length-map}
 use Rattle.words.specs.Words.{wordBytes}
 use Rattle.reflection.specs.Reflection.{CBufferVariable, CBufferDef, ResourceBinding, ResourceDef, Rd11, noRd11, rd11, isSm5}
 use Rattle.writing.specs.Step.{Oracle, Pools, _>>=_, return, wordCells, ahead}
-use Rattle.writing.specs.Records.{VariableOffsets, variableWords, variableSize, Section, bufferWords, bindingWords, bindingSize, rd11Words, headerWords, headerSize, BodyOffsets, rows}
+use Rattle.writing.specs.Records.{VariableOffsets, variableWords, variableSize, Section, bufferWords, bufferSize, bindingWords, bindingSize, rd11Words, headerWords, headerSize, BodyOffsets, rows}
 use Rattle.writing.specs.Layout.{zip, placeVariables, placeSection, placeSections, placeOuterNames, placeBufferParts}
 
 pub word-cells-length : (N D : Type 0) (ws : List ℕ) → length (wordCells {N = N} {D = D} ws) ≡ 4 * length ws
@@ -30,7 +30,7 @@ unfolding variableWords
 variable-words-length false v o = refl
 variable-words-length true v o = refl
 
-pub buffer-words-length : {N D : Type 0} (b : CBufferDef N D) (o : ℕ × Section) → length (bufferWords b o) ≡ 6
+pub buffer-words-length : {N D : Type 0} (b : CBufferDef N D) (o : ℕ × Section) → length (bufferWords b o) ≡ bufferSize
 unfolding bufferWords
 buffer-words-length b o = refl
 

@@ -6,7 +6,7 @@ use lib.Dec.{eqb}
 use lib.ListN.{length}
 use Rattle.reflection.specs.Reflection.{TypeNumbers, TypeDesc, typeDesc, Members, noMember, member, memberCount, CBufferVariable, CBufferDef, ResourceBinding, ResourceDef, isSm5, isWide}
 use Rattle.writing.specs.Step.{Cell, byte, nameByte, defaultByte, Oracle, Pools, pools, Placed, Step, _>>=_, return, append, remember, pad, wordCells, ahead, find, once, rememberIf, unlessEmpty, below, addOuterName, addInnerName, addType, addDefault, cellsOf}
-use Rattle.writing.specs.Records.{typeWords, VariableOffsets, variableWords, variableSize, Section, bufferWords, bindingWords, bindingSize, headerWords, headerSize, BodyOffsets, rows}
+use Rattle.writing.specs.Records.{typeWords, VariableOffsets, variableWords, variableSize, Section, bufferWords, bufferSize, bindingWords, bindingSize, headerWords, headerSize, BodyOffsets, rows}
 use Rattle.writing.specs.Same.{sameType}
 
 unfoldable pub zip : {A B : Type 0} → List A → List B → List (A × B)
@@ -112,7 +112,7 @@ module _ {N D : Type 0} (O : Oracle N D) where
   placeBuffers sm5 [] = return (0, [])
   placeBuffers sm5 (b ∷ bs) = do
     start ← pad
-    sections ← ahead (length (b ∷ bs) * 6) (rows bufferWords (b ∷ bs)) (placeBufferParts sm5 (b ∷ bs))
+    sections ← ahead (length (b ∷ bs) * bufferSize) (rows bufferWords (b ∷ bs)) (placeBufferParts sm5 (b ∷ bs))
     return (start, sections)
 
   -- After the header: bindings and their names, the buffers, the creator and padding.

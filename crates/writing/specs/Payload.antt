@@ -5,6 +5,7 @@ use mathlib.Core.List.{List, []}
 use mathlib.Core.Option.{Option, none, some}
 use Prim.Native.Nat.{ℕ}
 use Rattle.text.specs.Same.{sameBytes}
+use Rattle.reflection.specs.Refusals.{notReadable}
 use Rattle.reflection.specs.declared.Text.{Text}
 use Rattle.reflection.specs.Outcome.{Outcome, ok, refused, because}
 use Rattle.reflection.specs.Reflection.{ResourceDef}
@@ -40,8 +41,9 @@ asPart (refused e) = refused e
 
 -- 16, then the chunk if it is unedited (with no 17, however short the output), then 17 or the canonical form.
 unfoldable pub payloadOf : ℕ → Bytes → ResourceDef Bytes Bytes → Outcome Part
-payloadOf room chunk r = cond (readableContents r) (cond (unedited chunk r) (ok wholeChunk) (asPart (fitting room (ok (canonical r))))) (refused (because 16))
+payloadOf room chunk r =
+    cond (readableContents r) (cond (unedited chunk r) (ok wholeChunk) (asPart (fitting room (ok (canonical r))))) (refused (because notReadable))
 
 unfoldable pub payload : ℕ → Bytes → Option (ResourceDef Bytes Bytes) → Outcome Part
-payload room chunk none = refused (because 16)
+payload room chunk none = refused (because notReadable)
 payload room chunk (some r) = payloadOf room chunk r

@@ -3,8 +3,8 @@ use mathlib.Core.Bool.{Bool, true, false}
 use mathlib.Core.List.{List, [], _∷_, _++_}
 use Prim.Native.Nat.{ℕ, _+_, _*_, _/_}
 use lib.ListN.{length}
+use Rattle.reflection.specs.Strides.{headerSize as headerBytes, rd11HeaderSize, bindingStride, bufferStride, variableStride, typeStride, memberStride}
 use Rattle.reflection.specs.Reflection.{TypeNumbers, CBufferVariable, CBufferDef, ResourceBinding, ResourceDef, Rd11, noRd11, rd11, isSm5}
-use Rattle.reading.specs.Read.{bindingStride, variableStride}
 
 -- Two numbers of 16 bits in a word, the first in the lower half.
 unfoldable pub halves : ℕ → ℕ → ℕ
@@ -15,13 +15,16 @@ abbrev pub wordsIf : Bool → List ℕ → List ℕ
 wordsIf false ws = []
 wordsIf true ws = ws
 
--- How many words a header has; a binding and a variable, by the strides of reading; a buffer has 6.
+-- How many words a header has, a binding, a buffer and a variable.
 abbrev pub headerSize : Bool → ℕ
-headerSize false = 7
-headerSize true = 15
+headerSize false = headerBytes / 4
+headerSize true = rd11HeaderSize / 4
 
 abbrev pub bindingSize : Bool → ℕ
 bindingSize wide = bindingStride wide / 4
+
+abbrev pub bufferSize : ℕ
+bufferSize = bufferStride / 4
 
 abbrev pub variableSize : Bool → ℕ
 variableSize sm5 = variableStride sm5 / 4
@@ -56,9 +59,11 @@ bindingWords wide b o =
     (o ∷ b .input-type ∷ b .return-type ∷ b .dimension ∷ b .num-samples ∷ b .bind-point ∷ b .bind-count ∷ b .flags ∷ [])
     ++ wordsIf wide (b .space ∷ b .id ∷ [])
 
+-- The RD11 words of major 5: the identifier, the stride of bindings and the slots are the reflection's own, the others the sizes of header and records.
 unfoldable pub rd11Words : Rd11 → List ℕ
 rd11Words noRd11 = []
-rd11Words (rd11 identifier stride slots) = identifier ∷ 60 ∷ 24 ∷ stride ∷ 40 ∷ 36 ∷ 12 ∷ slots ∷ []
+rd11Words (rd11 identifier stride slots) =
+    identifier ∷ rd11HeaderSize ∷ bufferStride ∷ stride ∷ variableStride true ∷ typeStride true ∷ memberStride ∷ slots ∷ []
 
 -- Where the buffers' records lie (0 without buffers), what they hold, and where the creator lies.
 pub record BodyOffsets : Type 0 where
