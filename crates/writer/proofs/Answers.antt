@@ -7,19 +7,19 @@ use mathlib.Core.Logic.{_⊎_, inl, inr}
 use Prim.Native.Nat.{ℕ, _-_, _<_, _≤_, min}
 use native.Mathlib.Omega.{arith}
 use borrow.Author.Tests.{le-leb, lt-leb}
-use lib.Dec.{leb}
 use lib.ListN.{length, replicate}
 use Rattle.words.specs.Splice.{Put}
+use Rattle.reflection.specs.Limits.{chunkLimit}
+use Rattle.reflection.specs.Refusals.{noRoom, notReadable}
 use Rattle.reflection.specs.declared.ResourceDef.{ResourceDef as Header}
 use Rattle.reflection.specs.Outcome.{ok, refused, because}
 use Rattle.reflection.specs.Reflection.{ResourceDef}
 use Rattle.reflection.specs.Contents.{Bytes, contents}
 use Rattle.readable.specs.Readable.{held, readable, isReadable, readableContents}
 use Rattle.readable.proofs.ReadableTables.{Readable}
-use Rattle.emit.specs.Written.{fitting, writtenOf, outputOf, finished, kept}
+use Rattle.emit.specs.Written.{fitsIn, fitting, writtenOf, outputOf, finished, kept}
 use Rattle.emit.proofs.Fitting.{finished-answer, finished-output}
 use Rattle.writing.specs.Canonical.{canonical}
-use Rattle.placing.specs.Ran.{chunkLimit}
 use Rattle.table_placing.specs.Chunk.{TooLong}
 use Rattle.writing.specs.Outcome.{scratchSize, canonicalOr16, write}
 
@@ -30,7 +30,7 @@ cleared-whole {long} {n} e =
     ap (λ (k : ℕ). replicate {A = ℕ} k 0) whole
 
 module _ (scratch room : ℕ) where
-  pub short-scratch : (r : Option (ResourceDef Bytes Bytes)) → scratch < scratchSize → write scratch room r ≡ refused (because 15)
+  pub short-scratch : (r : Option (ResourceDef Bytes Bytes)) → scratch < scratchSize → write scratch room r ≡ refused (because noRoom)
   unfolding write
   short-scratch r short = rw (lt-leb scratchSize scratch short)
 
@@ -39,7 +39,7 @@ module _ (scratch room : ℕ) where
   unfolding write
   enough-scratch r enough = rw (le-leb scratchSize scratch enough)
 
-  not-readable : (r : Option (ResourceDef Bytes Bytes)) → isReadable r ≡ false → canonicalOr16 r ≡ refused (because 16)
+  not-readable : (r : Option (ResourceDef Bytes Bytes)) → isReadable r ≡ false → canonicalOr16 r ≡ refused (because notReadable)
   unfolding canonicalOr16
   not-readable none e = refl
   not-readable (some r) e = rw e
@@ -47,11 +47,11 @@ module _ (scratch room : ℕ) where
   pub readable-written : (r : ResourceDef Bytes Bytes) → readableContents r ≡ true → scratchSize ≤ scratch → write scratch room (some r) ≡ fitting room (ok (canonical r))
   unfolding canonicalOr16
   readable-written r is-readable enough =
-      enough-scratch (some r) enough ∙ ap (λ (test : Bool). fitting room (cond test (ok (canonical r)) (refused (because 16)))) is-readable
+      enough-scratch (some r) enough ∙ ap (λ (test : Bool). fitting room (cond test (ok (canonical r)) (refused (because notReadable)))) is-readable
 
   module _ (chunk edits : Bytes) (h : Header) (bindings buffers variables types : List ℕ) (enough : scratchSize ≤ scratch) where
     pub unreadable : readable chunk edits h bindings buffers variables types ≡ false
-        → write scratch room (held chunk edits h bindings buffers variables types) ≡ refused (because 16)
+        → write scratch room (held chunk edits h bindings buffers variables types) ≡ refused (because notReadable)
     unfolding readable fitting
     unreadable e = enough-scratch (held chunk edits h bindings buffers variables types) enough ∙ ap (fitting room) (not-readable (held chunk edits h bindings buffers variables types) e)
 
@@ -59,8 +59,8 @@ module _ (scratch room : ℕ) where
         → write scratch room (held chunk edits h bindings buffers variables types) ≡ fitting room (ok (canonical (contents chunk edits (r .def))))
     writable r = ap (write scratch room) (r .is-held) ∙ readable-written (contents chunk edits (r .def)) (r .is-readable) enough
 
-longer : (room n : ℕ) → chunkLimit < n → leb n (min room 65536) ≡ false
-longer room n h = lt-leb n (min room 65536) (omega arith)
+longer : (room n : ℕ) → chunkLimit < n → fitsIn room n ≡ false
+longer room n h = lt-leb n (min room chunkLimit) (omega arith)
 
 -- The end of writing: the canonical form was put, or it is longer than a chunk may be; then the answer is 17, whatever the output holds.
 module _ {bytes lent out : List ℕ} {at : ℕ} where

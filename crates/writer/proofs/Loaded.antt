@@ -5,6 +5,7 @@ use mathlib.Core.List.{List}
 use mathlib.Core.Option.{Option, some}
 use Prim.Native.Nat.{ℕ, _≤_, _<_}
 use lib.ListN.{length, getD}
+use Rattle.reflection.specs.Limits.{chunkLimit}
 use Rattle.reflection.specs.declared.ResourceDef.{ResourceDef as Header}
 use Rattle.reflection.specs.Outcome.{Outcome, ok}
 use Rattle.reflection.specs.Reflection.{ResourceDef}
@@ -22,7 +23,7 @@ use Rattle.writer.proofs.Answers.{readable-written}
 module _
     (chunk edits : Bytes)
     (bytes : (i : ℕ) → getD chunk i 0 < 256)
-    (edits-short : length edits ≤ 65536)
+    (edits-short : length edits ≤ chunkLimit)
     (b f v t : List ℕ)
     {bindings buffers variables types : List ℕ}
     {nb nf nv nt : ℕ}

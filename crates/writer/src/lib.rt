@@ -24,8 +24,8 @@ fn write_tables<'a>(
         (now (bindings .entry)) (now (buffers .entry)) (now (variables .entry)) (now (types .entry))) (now (out .entry)) ⌝ }
     ensures scratch { λ _. ⌜ length (now (scratch .exit)) ≡ length (now (scratch .entry)) ⌝ }
 {
-    if scratch.len() < 95360 {
-        return emit::refuse(out, 15);
+    if scratch.len() < writing::SCRATCH_WORDS {
+        return emit::refuse(out, reflection::NO_ROOM);
     }
     if readable::readable(chunk, edits, def, bindings, buffers, variables, types) {
         let at = table_placing::write_chunk(
@@ -41,12 +41,12 @@ fn write_tables<'a>(
         );
         return emit::finish(out, at);
     }
-    emit::refuse(out, 16)
+    emit::refuse(out, reflection::NOT_READABLE)
 }
 
-// Writes the canonical form of the reflection that the tables hold. 15 where the scratch is shorter than 95,360 words, 16 where the reflection is not
-// readable, 17 where the form is longer than the output or than 65,536 bytes. The scratch is zeroed in any case, the output by a refusal; bytes past the
-// written length are as they were.
+// Writes the canonical form of the reflection that the tables hold. 15 where the scratch is shorter than `writing::SCRATCH_WORDS`, 16 where the
+// reflection is not readable, 17 where the form is longer than the output or than 65,536 bytes. The scratch is zeroed in any case, the output by a
+// refusal; bytes past the written length are as they were.
 pub fn write_rdef_canonical<'a>(
     chunk: &'a [u8],
     edits: &'a [u8],
