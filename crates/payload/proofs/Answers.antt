@@ -8,6 +8,8 @@ use native.Mathlib.Omega.{arith}
 use borrow.Author.Tests.{le-leb, leb-true}
 use lib.Dec.{leb}
 use Rattle.text.proofs.Bools.{and-true}
+use Rattle.reflection.specs.Limits.{bindingTable, bufferTable, variableTable, typeTable}
+use Rattle.reflection.specs.Refusals.{noRoom, notReadable}
 use Rattle.reflection.specs.Outcome.{Outcome, ok, refused, because}
 use Rattle.reflection.specs.Reflection.{ResourceDef}
 use Rattle.reflection.specs.Contents.{Bytes}
@@ -19,33 +21,33 @@ use Rattle.payload.specs.Answer.{roomEnough, payloadWith, payloadAnswer,
 
 -- What the test of the room says.
 pub record Enough (bindings buffers variables types scratch : ℕ) : Type 0 where
-  pub bindings-long : 12288 ≤ bindings
-  pub buffers-long : 448 ≤ buffers
-  pub variables-long : 26624 ≤ variables
-  pub types-long : 69632 ≤ types
+  pub bindings-long : bindingTable ≤ bindings
+  pub buffers-long : bufferTable ≤ buffers
+  pub variables-long : variableTable ≤ variables
+  pub types-long : typeTable ≤ types
   pub scratch-long : scratchSize ≤ scratch
 
 pub enough-long : (b f v t s : ℕ) → roomEnough b f v t s ≡ true → Enough b f v t s
 unfolding roomEnough
 enough-long b f v t s e =
-    let (b-long, e₁) = and-true (leb 12288 b) (leb 448 f && (leb 26624 v && (leb 69632 t && leb scratchSize s))) e in
-    let (f-long, e₂) = and-true (leb 448 f) (leb 26624 v && (leb 69632 t && leb scratchSize s)) e₁ in
-    let (v-long, e₃) = and-true (leb 26624 v) (leb 69632 t && leb scratchSize s) e₂ in
-    let (t-long, s-long) = and-true (leb 69632 t) (leb scratchSize s) e₃ in
+    let (b-long, e₁) = and-true (leb bindingTable b) (leb bufferTable f && (leb variableTable v && (leb typeTable t && leb scratchSize s))) e in
+    let (f-long, e₂) = and-true (leb bufferTable f) (leb variableTable v && (leb typeTable t && leb scratchSize s)) e₁ in
+    let (v-long, e₃) = and-true (leb variableTable v) (leb typeTable t && leb scratchSize s) e₂ in
+    let (t-long, s-long) = and-true (leb typeTable t) (leb scratchSize s) e₃ in
     record {
-      bindings-long = leb-true 12288 b b-long;
-      buffers-long = leb-true 448 f f-long;
-      variables-long = leb-true 26624 v v-long;
-      types-long = leb-true 69632 t t-long;
+      bindings-long = leb-true bindingTable b b-long;
+      buffers-long = leb-true bufferTable f f-long;
+      variables-long = leb-true variableTable v v-long;
+      types-long = leb-true typeTable t t-long;
       scratch-long = leb-true scratchSize s s-long;
     }
 
 module _ (enough : Bool) (room : ℕ) (chunk : Bytes) where
-  pub no-room : (r : Option (ResourceDef Bytes Bytes)) → enough ≡ false → payloadWith enough room chunk r ≡ refused (because 15)
+  pub no-room : (r : Option (ResourceDef Bytes Bytes)) → enough ≡ false → payloadWith enough room chunk r ≡ refused (because noRoom)
   unfolding payloadWith
   no-room r e = rw e
 
-  pub not-readable : (r : Option (ResourceDef Bytes Bytes)) → enough ≡ true → isReadable r ≡ false → payloadWith enough room chunk r ≡ refused (because 16)
+  pub not-readable : (r : Option (ResourceDef Bytes Bytes)) → enough ≡ true → isReadable r ≡ false → payloadWith enough room chunk r ≡ refused (because notReadable)
   unfolding payloadWith payload payloadOf
   not-readable none e h = rw e
   not-readable (some r) e h = rw (e, h)

@@ -8,6 +8,7 @@ use Prim.Native.Nat.{ℕ, _/_, _≤_, _<_, min}
 use native.Mathlib.Omega.{arith}
 use lib.ListN.{length, getD}
 use Rattle.text.specs.Same.{sameBytes}
+use Rattle.reflection.specs.Limits.{bindingTable, bufferTable, variableTable, typeTable, bindingRoom, bufferRoom, variableRoom, typeRoom}
 use Rattle.reflection.specs.declared.Text.{Text}
 use Rattle.reflection.specs.declared.Refusal.{Refusal}
 use Rattle.reflection.specs.declared.ResourceDef.{ResourceDef as Header}
@@ -38,13 +39,13 @@ as-held : (chunk edits : Bytes) (h : Header) (bindings buffers variables types :
 as-held chunk edits h bindings buffers variables types holds = decoded h bindings buffers variables types (holds .def) (holds .decoded) .is
 
 -- The room of tables that are long enough is the whole room.
-pub full-room : (b f v t : ℕ) → 12288 ≤ b → 448 ≤ f → 26624 ≤ v → 69632 ≤ t → roomOf b f v t ≡ fullRoom
+pub full-room : (b f v t : ℕ) → bindingTable ≤ b → bufferTable ≤ f → variableTable ≤ v → typeTable ≤ t → roomOf b f v t ≡ fullRoom
 unfolding roomOf
 full-room b f v t b-long f-long v-long t-long =
-    let p : min (b / bindingWidth) 1024 ≡ 1024 = omega arith in
-    let q : min (f / bufferWidth) 64 ≡ 64 = omega arith in
-    let r : min (v / variableWidth) 2048 ≡ 2048 = omega arith in
-    let s : min (t / typeWidth) 4096 ≡ 4096 = omega arith in
+    let p : min (b / bindingWidth) bindingRoom ≡ bindingRoom = omega arith in
+    let q : min (f / bufferWidth) bufferRoom ≡ bufferRoom = omega arith in
+    let r : min (v / variableWidth) variableRoom ≡ variableRoom = omega arith in
+    let s : min (t / typeWidth) typeRoom ≡ typeRoom = omega arith in
     λ i. room (p i) (q i) (r i) (s i)
 
 -- What was read into the tables `found`, and so is in them.

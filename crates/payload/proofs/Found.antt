@@ -74,7 +74,7 @@ module _ (s edits : Bytes) where
   members-same readType h zero at r = refl
   members-same readType h (suc n) at r =
       let P : Members Text → Type 0 = λ ms. mapMembers f ms ≡ mapMembers g ms in
-      any-gives P _ _ (λ _. then-gives (λ t. f t ≡ g t) P _ _ (text-same 11 _) (λ name p. then-gives (λ t. mapType f t ≡ mapType g t) P _ _ (h _) (λ t q.
+      any-gives P _ _ (λ _. then-gives (λ t. f t ≡ g t) P _ _ (text-same _ _) (λ name p. then-gives (λ t. mapType f t ≡ mapType g t) P _ _ (h _) (λ t q.
       then-gives P P _ _ (members-same readType h n _) (λ ms o w. (λ i. member (p i) (wordAt s (at + 8)) (q i) (o i)))))) r
 
   type-same : (sm5 : Bool) (levels : ℕ) (path : List ℕ) (at : ℕ) (r : Room) → Gives (λ t. mapType f t ≡ mapType g t) (readType s sm5 levels path at r)
@@ -84,7 +84,7 @@ module _ (s edits : Bytes) where
       let P : TypeDesc Text → Type 0 = λ t. mapType f t ≡ mapType g t in
       any-gives P _ _ (λ _. any-gives P _ _ (λ _. any-gives P _ _ (λ _.
       then-gives (λ ms. mapMembers f ms ≡ mapMembers g ms) P _ _ (members-same _ (λ below. type-same sm5 levels (at ∷ path) below) _ _) (λ ms o.
-      then-gives (λ t. f t ≡ g t) P _ _ (text-same 11 _) (λ name p w. (λ i. typeDesc (numbersFrom s sm5 at) (p i) (o i))))))) r
+      then-gives (λ t. f t ≡ g t) P _ _ (text-same _ _) (λ name p w. (λ i. typeDesc (numbersFrom s sm5 at) (p i) (o i))))))) r
 
   many-same : {A B : Type 0} (h k : A → B) (read : ℕ → Step A) → ((at : ℕ) (r : Room) → Gives (λ x. h x ≡ k x) (read at r))
       → (stride n at : ℕ) (r : Room) → Gives (λ xs. map h xs ≡ map k xs) (readMany read stride n at r)
@@ -98,7 +98,7 @@ module _ (s edits : Bytes) where
   unfolding readVariable variableFrom return mapVariable
   variable-same sm5 at r =
       let P : CBufferVariable Text Text → Type 0 = λ v. mapVariable f f v ≡ mapVariable g g v in
-      any-gives P _ _ (λ _. any-gives P _ _ (λ _. then-gives (λ t. f t ≡ g t) P _ _ (text-same 12 _) (λ default d. then-gives (λ t. f t ≡ g t) P _ _ (text-same 11 _) (λ name p.
+      any-gives P _ _ (λ _. any-gives P _ _ (λ _. then-gives (λ t. f t ≡ g t) P _ _ (text-same _ _) (λ default d. then-gives (λ t. f t ≡ g t) P _ _ (text-same _ _) (λ name p.
       then-gives (λ t. mapType f t ≡ mapType g t) P _ _ (type-same sm5 typeLevels [] _) (λ t q w.
       variable-by (variableFrom s sm5 at name default t) p d q))))) r
 
@@ -108,14 +108,14 @@ module _ (s edits : Bytes) where
       let P : CBufferDef Text Text → Type 0 = λ b. mapBuffer f f b ≡ mapBuffer g g b in
       any-gives P _ _ (λ _. any-gives P _ _ (λ _.
       then-gives (λ vs. map (mapVariable f f) vs ≡ map (mapVariable g g) vs) P _ _ (many-same (mapVariable f f) (mapVariable g g) (readVariable s sm5) (variable-same sm5) (variableStride sm5) _ _) (λ vs o.
-      then-gives (λ t. f t ≡ g t) P _ _ (text-same 11 _) (λ name p w. buffer-by (bufferFrom s at name vs) p o)))) r
+      then-gives (λ t. f t ≡ g t) P _ _ (text-same _ _) (λ name p w. buffer-by (bufferFrom s at name vs) p o)))) r
 
   binding-same : (wide : Bool) (at : ℕ) (r : Room) → Gives (λ b. mapBinding f b ≡ mapBinding g b) (readBinding s wide at r)
   unfolding readBinding bindingFrom return mapBinding
   binding-same wide at r =
       let P : ResourceBinding Text → Type 0 = λ b. mapBinding f b ≡ mapBinding g b in
       any-gives P _ _ (λ _. any-gives P _ _ (λ _. any-gives P _ _ (λ _. any-gives P _ _ (λ _. any-gives P _ _ (λ _.
-      then-gives (λ t. f t ≡ g t) P _ _ (text-same 11 _) (λ name p w. binding-by (bindingFrom s wide at name) p)))))) r
+      then-gives (λ t. f t ≡ g t) P _ _ (text-same _ _) (λ name p w. binding-by (bindingFrom s wide at name) p)))))) r
 
   tables-same : (creator : Text) → f creator ≡ g creator → (words : Rd11) (r : Room) → Gives (λ d. contents s [] d ≡ contents s edits d) (readTables s creator words r)
   unfolding readTables return contents mapDef
@@ -129,7 +129,7 @@ module _ (s edits : Bytes) where
   unfolding readChunk
   chunk-same r =
       let P : ResourceDef Text Text → Type 0 = λ d. contents s [] d ≡ contents s edits d in
-      any-gives P _ _ (λ _. any-gives P _ _ (λ _. any-gives P _ _ (λ _. then-gives (λ t. f t ≡ g t) P _ _ (text-same 4 _) (λ creator c.
+      any-gives P _ _ (λ _. any-gives P _ _ (λ _. any-gives P _ _ (λ _. then-gives (λ t. f t ≡ g t) P _ _ (text-same _ _) (λ creator c.
       any-gives P _ _ (λ words. tables-same creator c words))))) r
 
 value-of : {A : Type 0} (P : A → Type 0) (x : Outcome (A × Room)) (a : A) → Gives P x → withoutRoom x ≡ ok a → P a

@@ -13,6 +13,8 @@ use lib.Seq.{take-all, take-append-le}
 use Rattle.words.specs.Parts.{inside, part}
 use Rattle.words.specs.Splice.{splice, length-splice, splice-eq}
 use Rattle.text.specs.Same.{sameBytes}
+use Rattle.reflection.specs.Limits.{chunkLimit}
+use Rattle.reflection.specs.Refusals.{notReadable, outputTooSmall}
 use Rattle.reflection.specs.declared.Text.{Text}
 use Rattle.reflection.specs.declared.ResourceDef.{ResourceDef as Header}
 use Rattle.reflection.specs.Outcome.{Outcome, ok, refused, because}
@@ -25,7 +27,7 @@ use Rattle.readable.specs.Readable.{held, readableContents}
 use Rattle.readable.proofs.Reading.{AtMostFull, tables-at-most-full, read-contents, read-held}
 use Rattle.reader.specs.Parsed.{readInto}
 use Rattle.reader.proofs.Held.{Held}
-use Rattle.emit.specs.Written.{fitting}
+use Rattle.emit.specs.Written.{fitsIn, fitting}
 use Rattle.writing.specs.Same.{sameDef}
 use Rattle.writing.specs.Canonical.{canonical}
 use Rattle.writing.specs.Payload.{Part, wholeChunk, written, handedBack, readAs, unedited, asPart, payloadOf, payload}
@@ -44,7 +46,7 @@ module _
     (out : ℕ)
     (chunk edits : Bytes)
     (bytes : (i : ℕ) → getD chunk i 0 < 256)
-    (short : length edits ≤ 65536)
+    (short : length edits ≤ chunkLimit)
     (r : Room)
     (full : AtMostFull r)
     (d : ResourceDef Text Text)
@@ -64,10 +66,12 @@ module _
   unfolding payload payloadOf
   unedited-hands-chunk nb nf nv nt =
       ap (payload out chunk) (read-held chunk edits bytes r full d reads short nb nf nv nt)
-      ∙ (λ i. cond (read-contents chunk edits bytes r full d reads i) (cond (as-read i) (ok wholeChunk) (asPart (fitting out (ok (canonical (contents chunk edits d)))))) (refused (because 16)))
+      ∙ (λ i. cond (read-contents chunk edits bytes r full d reads i)
+      (cond (as-read i) (ok wholeChunk) (asPart (fitting out (ok (canonical (contents chunk edits d)))))) (refused (because notReadable)))
 
 -- So of what `parse_rdef` left in the tables that it was lent, of whatever length they are.
-pub read-hands-chunk : (out : ℕ) (chunk edits : Bytes) → ((i : ℕ) → getD chunk i 0 < 256) → length edits ≤ 65536 → (b f v t : List ℕ) {nb nf nv nt : ℕ} {h : Header} {bindings buffers variables types : List ℕ}
+pub read-hands-chunk : (out : ℕ) (chunk edits : Bytes) → ((i : ℕ) → getD chunk i 0 < 256) → length edits ≤ chunkLimit
+    → (b f v t : List ℕ) {nb nf nv nt : ℕ} {h : Header} {bindings buffers variables types : List ℕ}
     → Held (readInto chunk b f v t) nb nf nv nt h bindings buffers variables types → payload out chunk (held chunk edits h bindings buffers variables types) ≡ ok wholeChunk
 unfolding readInto
 read-hands-chunk out chunk edits bytes short b f v t {nb} {nf} {nv} {nt} found =
@@ -88,22 +92,22 @@ module _ (room : ℕ) (chunk : Bytes) (r : ResourceDef Bytes Bytes) where
   -- What was handed back: the chunk, unedited, or the canonical form, which fits.
   pub data Handed (p : Part) : Type 0 where
     the-chunk : p ≡ wholeChunk → unedited chunk r ≡ true → Handed p
-    the-form : p ≡ written (canonical r) → length (canonical r) ≤ min room 65536 → Handed p
+    the-form : p ≡ written (canonical r) → length (canonical r) ≤ min room chunkLimit → Handed p
 
   handed : (p : Part) → payload room chunk (some r) ≡ ok p → (readableContents r ≡ true) × Handed p
   unfolding payload payloadOf asPart fitting
   handed p e = by-readable (readableContents r) refl e
     where
-      by-fit : (fits : Bool) → leb (length (canonical r)) (min room 65536) ≡ fits → asPart (cond fits (ok (canonical r)) (refused (because 17))) ≡ ok p → Handed p
-      by-fit true is q = the-form (cc) (leb-true (length (canonical r)) (min room 65536) is)
+      by-fit : (fits : Bool) → fitsIn room (length (canonical r)) ≡ fits → asPart (cond fits (ok (canonical r)) (refused (because outputTooSmall))) ≡ ok p → Handed p
+      by-fit true is q = the-form (cc) (leb-true (length (canonical r)) (min room chunkLimit) is)
       by-fit false is q = absurd (let apart : _≡_ {A = ℕ} 0 1 = cc in omega arith)
 
       by-unedited : (same : Bool) → unedited chunk r ≡ same → cond same (ok wholeChunk) (asPart (fitting room (ok (canonical r)))) ≡ ok p → Handed p
       by-unedited true is q = the-chunk (cc) is
-      by-unedited false is q = by-fit (leb (length (canonical r)) (min room 65536)) refl q
+      by-unedited false is q = by-fit (fitsIn room (length (canonical r))) refl q
 
       by-readable : (passes : Bool) → readableContents r ≡ passes
-          → cond passes (cond (unedited chunk r) (ok wholeChunk) (asPart (fitting room (ok (canonical r))))) (refused (because 16)) ≡ ok p → (readableContents r ≡ true) × Handed p
+          → cond passes (cond (unedited chunk r) (ok wholeChunk) (asPart (fitting room (ok (canonical r))))) (refused (because notReadable)) ≡ ok p → (readableContents r ≡ true) × Handed p
       by-readable true is q = (is, by-unedited (unedited chunk r) refl q)
       by-readable false is q = absurd (let apart : _≡_ {A = ℕ} 0 1 = cc in omega arith)
 

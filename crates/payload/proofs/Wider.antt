@@ -6,6 +6,7 @@ use Prim.Native.Nat.{ℕ, zero, suc, _+_, _≤_}
 use native.Mathlib.Omega.{arith}
 use Rattle.text.specs.declared.Found.{Found}
 use Rattle.text.specs.declared.Found.the-variants.{At, Bad}
+use Rattle.reflection.specs.Strides.{memberStride}
 use Rattle.reflection.specs.declared.Text.{Text}
 use Rattle.reflection.specs.Outcome.{Outcome, ok, refused}
 use Rattle.reflection.specs.Reflection.{TypeDesc, Rd11, ResourceDef}
@@ -96,37 +97,38 @@ module _ (s : List ℕ) where
   unfolding readMembers
   members-widen one each zero at = return-widens _
   members-widen one each (suc n) at =
-      then-widens _ _ (check-widens _ 7) (λ _. then-widens _ _ (text-widens 11 _) (λ name. then-widens _ _ (each _) (λ t. then-widens _ _ (members-widen one each n (at + 12)) (λ ms. return-widens _))))
+      then-widens _ _ (check-widens _ _) (λ _. then-widens _ _ (text-widens _ _) (λ name. then-widens _ _ (each _) (λ t.
+      then-widens _ _ (members-widen one each n (at + memberStride)) (λ ms. return-widens _))))
 
   read-type-widens : (sm5 : Bool) (levels : ℕ) (path : List ℕ) (at : ℕ) → Widens (readType s sm5 levels path at)
   unfolding readType
-  read-type-widens sm5 zero path at = refuse-widens 13
+  read-type-widens sm5 zero path at = refuse-widens _
   read-type-widens sm5 (suc levels) path at =
-      then-widens _ _ (check-widens _ 14) (λ _. then-widens _ _ type-widens (λ _. then-widens _ _ (check-widens _ 7) (λ _.
-      then-widens _ _ (members-widen _ (λ below. read-type-widens sm5 levels (at ∷ path) below) _ _) (λ ms. then-widens _ _ (text-widens 11 _) (λ name. return-widens _)))))
+      then-widens _ _ (check-widens _ _) (λ _. then-widens _ _ type-widens (λ _. then-widens _ _ (check-widens _ _) (λ _.
+      then-widens _ _ (members-widen _ (λ below. read-type-widens sm5 levels (at ∷ path) below) _ _) (λ ms. then-widens _ _ (text-widens _ _) (λ name. return-widens _)))))
 
   read-variable-widens : (sm5 : Bool) (at : ℕ) → Widens (readVariable s sm5 at)
   unfolding readVariable
   read-variable-widens sm5 at =
-      then-widens _ _ variable-widens (λ _. then-widens _ _ (check-widens _ 7) (λ _. then-widens _ _ (text-widens 12 _) (λ default. then-widens _ _ (text-widens 11 _) (λ name.
+      then-widens _ _ variable-widens (λ _. then-widens _ _ (check-widens _ _) (λ _. then-widens _ _ (text-widens _ _) (λ default. then-widens _ _ (text-widens _ _) (λ name.
       then-widens _ _ (read-type-widens sm5 typeLevels [] _) (λ t. return-widens _)))))
 
   read-buffer-widens : (sm5 : Bool) (at : ℕ) → Widens (readBuffer s sm5 at)
   unfolding readBuffer
   read-buffer-widens sm5 at =
-      then-widens _ _ buffer-widens (λ _. then-widens _ _ (check-widens _ 7) (λ _. then-widens _ _ (many-widens (readVariable s sm5) (read-variable-widens sm5) (variableStride sm5) _ _) (λ vs.
-      then-widens _ _ (text-widens 11 _) (λ name. return-widens _))))
+      then-widens _ _ buffer-widens (λ _. then-widens _ _ (check-widens _ _) (λ _. then-widens _ _ (many-widens (readVariable s sm5) (read-variable-widens sm5) (variableStride sm5) _ _) (λ vs.
+      then-widens _ _ (text-widens _ _) (λ name. return-widens _))))
 
   read-binding-widens : (wide : Bool) (at : ℕ) → Widens (readBinding s wide at)
   unfolding readBinding
   read-binding-widens wide at =
-      then-widens _ _ binding-widens (λ _. then-widens _ _ (check-widens _ 7) (λ _. then-widens _ _ (check-widens _ 8) (λ _. then-widens _ _ (check-widens _ 9) (λ _.
-      then-widens _ _ (check-widens _ 10) (λ _. then-widens _ _ (text-widens 11 _) (λ name. return-widens _))))))
+      then-widens _ _ binding-widens (λ _. then-widens _ _ (check-widens _ _) (λ _. then-widens _ _ (check-widens _ _) (λ _. then-widens _ _ (check-widens _ _) (λ _.
+      then-widens _ _ (check-widens _ _) (λ _. then-widens _ _ (text-widens _ _) (λ name. return-widens _))))))
 
   rd11-widens : (sm5 : Bool) → Widens (readRd11 s sm5)
   unfolding readRd11
   rd11-widens false = return-widens _
-  rd11-widens true = then-widens _ _ (check-widens _ 5) (λ _. then-widens _ _ (check-widens _ 6) (λ _. return-widens _))
+  rd11-widens true = then-widens _ _ (check-widens _ _) (λ _. then-widens _ _ (check-widens _ _) (λ _. return-widens _))
 
   tables-widen : (creator : Text) (words : Rd11) → Widens (readTables s creator words)
   unfolding readTables
@@ -136,7 +138,7 @@ module _ (s : List ℕ) where
   chunk-widens : Widens (readChunk s)
   unfolding readChunk
   chunk-widens =
-      then-widens _ _ (check-widens _ 1) (λ _. then-widens _ _ (check-widens _ 2) (λ _. then-widens _ _ (check-widens _ 3) (λ _. then-widens _ _ (text-widens 4 _) (λ creator.
+      then-widens _ _ (check-widens _ _) (λ _. then-widens _ _ (check-widens _ _) (λ _. then-widens _ _ (check-widens _ _) (λ _. then-widens _ _ (text-widens _ _) (λ creator.
       then-widens _ _ (rd11-widens _) (λ words. tables-widen creator words)))))
 
   pub read-wider : (r w : Room) → AtMost r w → (d : ResourceDef Text Text) → read r s ≡ ok d → read w s ≡ ok d

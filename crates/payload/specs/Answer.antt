@@ -7,6 +7,8 @@ use lib.Dec.{leb}
 use lib.ListN.{length, replicate}
 use Rattle.words.specs.Parts.{inside, part}
 use Rattle.words.specs.Splice.{splice}
+use Rattle.reflection.specs.Limits.{bindingTable, bufferTable, variableTable, typeTable}
+use Rattle.reflection.specs.Refusals.{noRoom}
 use Rattle.reflection.specs.declared.NamePlace.{NamePlace}
 use Rattle.reflection.specs.declared.NamePlace.the-variants.{InPlace, Refused as Missing}
 use Rattle.reflection.specs.Outcome.{Outcome, ok, refused, because}
@@ -22,11 +24,12 @@ use Rattle.payload.specs.declared.Payload.the-variants.{Chunk, Output, R
 
 -- Whether tables of so many words hold document 01's whole room, and the scratch what the writer needs.
 unfoldable pub roomEnough : ℕ → ℕ → ℕ → ℕ → ℕ → Bool
-roomEnough bindings buffers variables types scratch = leb 12288 bindings && (leb 448 buffers && (leb 26624 variables && (leb 69632 types && leb scratchSize scratch)))
+roomEnough bindings buffers variables types scratch =
+    leb bindingTable bindings && (leb bufferTable buffers && (leb variableTable variables && (leb typeTable types && leb scratchSize scratch)))
 
 -- The payload behind the test of the room: 15 comes first.
 unfoldable pub payloadWith : Bool → ℕ → Bytes → Option (ResourceDef Bytes Bytes) → Outcome Part
-payloadWith enough room chunk r = cond enough (payload room chunk r) (refused (because 15))
+payloadWith enough room chunk r = cond enough (payload room chunk r) (refused (because noRoom))
 
 -- The answer's three cases.
 unfoldable pub payloadAnswer : Outcome Part → Payload

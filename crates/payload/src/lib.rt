@@ -3,6 +3,7 @@ ghost use mathlib.Core.Path.{_≡_};
 ghost use mathlib.Core.Bool.{true};
 ghost use Prim.Native.Nat.{_≤_};
 ghost use lib.ListN.{length, replicate};
+ghost use Rattle.reflection.specs.Limits.{bindingTable, bufferTable, variableTable, typeTable};
 ghost use Rattle.reflection.specs.Outcome.{refused, because};
 ghost use Rattle.readable.specs.Readable.{held, readable};
 ghost use Rattle.payload.specs.Answer.{roomEnough, uneditedHeld, writtenAnswer, payloadWith, payloadAnswer, payloadOutput, payloadPart, payloadPlace};
@@ -23,19 +24,19 @@ pub enum Payload {
 fn enough(bindings: usize, buffers: usize, variables: usize, types: usize, scratch: usize) -> bool
     ensures { λ r. ⌜ r ≡ roomEnough bindings buffers variables types scratch ⌝ }
 {
-    if bindings < 12288 {
+    if bindings < reflection::BINDING_TABLE {
         return false;
     }
-    if buffers < 448 {
+    if buffers < reflection::BUFFER_TABLE {
         return false;
     }
-    if variables < 26624 {
+    if variables < reflection::VARIABLE_TABLE {
         return false;
     }
-    if types < 69632 {
+    if types < reflection::TYPE_TABLE {
         return false;
     }
-    95360 <= scratch
+    writing::SCRATCH_WORDS <= scratch
 }
 
 // A refusal: the output is zeroed.
@@ -72,7 +73,8 @@ fn unedited<'a>(
     found_types: &mut [u32],
 ) -> bool
     requires { ⌜ readable (now chunk) (now edits) def (now bindings) (now buffers) (now variables) (now types) ≡ true ⌝ }
-    requires { ⌜ (12288 ≤ length (now «found_bindings»)) × ((448 ≤ length (now «found_buffers»)) × ((26624 ≤ length (now «found_variables»)) × (69632 ≤ length (now «found_types»)))) ⌝ }
+    requires { ⌜ (bindingTable ≤ length (now «found_bindings»)) × ((bufferTable ≤ length (now «found_buffers»))
+        × ((variableTable ≤ length (now «found_variables»)) × (typeTable ≤ length (now «found_types»)))) ⌝ }
     ensures answer { λ r. ⌜ r ≡ uneditedHeld (now (chunk .entry)) (held (now (chunk .entry)) (now (edits .entry)) def (now (bindings .entry)) (now (buffers .entry)) (now (variables .entry)) (now (types .entry))) ⌝ }
     ensures bindings { λ _. ⌜ length (now («found_bindings» .exit)) ≡ length (now («found_bindings» .entry)) ⌝ }
     ensures buffers { λ _. ⌜ length (now («found_buffers» .exit)) ≡ length (now («found_buffers» .entry)) ⌝ }
@@ -142,10 +144,10 @@ fn find_payload<'a>(
         found_types.len(),
         scratch.len(),
     ) {
-        return refuse(out, 15);
+        return refuse(out, reflection::NO_ROOM);
     }
     if !readable::readable(chunk, edits, def, bindings, buffers, variables, types) {
-        return refuse(out, 16);
+        return refuse(out, reflection::NOT_READABLE);
     }
     if unedited(
         chunk,
@@ -176,10 +178,10 @@ fn find_payload<'a>(
     written_payload(written)
 }
 
-// The payload of the reflection that the tables hold. The chunk is read again into the four lent tables `found_…`, which are scratch: 15 where one is shorter
-// than 12,288, 448, 26,624 or 69,632 words or the scratch than 95,360; 16 where the reflection is not readable; then the chunk where it reads as this
-// reflection, however short the output, which is then untouched; else the canonical form, or 17 where it is longer than the output or than 65,536 bytes. The
-// four tables and the scratch are zeroed in any case, the output by a refusal; bytes past the written length are as they were.
+// The payload of the reflection that the tables hold. The chunk is read again into the four lent tables `found_…`, which are scratch: 15 where one has
+// not document 01's whole room or the scratch is shorter than `writing::SCRATCH_WORDS`; 16 where the reflection is not readable; then the chunk where it
+// reads as this reflection, however short the output, which is then untouched; else the canonical form, or 17 where it is longer than the output or than
+// 65,536 bytes. The four tables and the scratch are zeroed in any case, the output by a refusal; bytes past the written length are as they were.
 pub fn write_payload<'a>(
     chunk: &'a [u8],
     edits: &'a [u8],
@@ -253,7 +255,9 @@ pub fn payload_refusal(out: &[u8], payload: Payload) -> NamePlace
             if n <= out.len() {
                 NamePlace::InPlace
             } else {
-                NamePlace::Refused(Refusal { number: 16 })
+                NamePlace::Refused(Refusal {
+                    number: reflection::NOT_READABLE,
+                })
             }
         }
         Payload::Refused(refusal) => NamePlace::Refused(refusal),
