@@ -50,7 +50,7 @@ module _ {r : Parsed} where
   pub read-header : (out : Outcome (ResourceDef Text Text)) (n : ℕ) {h : Header} {cleared put header : List ℕ} → r ≡ parsedOf out → r ≡ Read h
       → cleared ≡ replicate n 0 → put ≡ headerWords h → header ≡ splice cleared 0 put → header ≡ headerTable out n
   unfolding parsedOf
-  read-header (ok def) n {h} answer read zeros twelve put =
+  read-header (ok def) n {h} answer read zeros words put =
       let same : h ≡ headerOf def = cc in
-      value-table (λ (d : ResourceDef Text Text). headerWords (headerOf d)) n zeros refl (twelve ∙ ap headerWords same) put
-  read-header (refused d) n answer read zeros twelve put = absurd (let apart : _≡_ {A = ℕ} 0 1 = cc in omega arith)
+      value-table (λ (d : ResourceDef Text Text). headerWords (headerOf d)) n zeros refl (words ∙ ap headerWords same) put
+  read-header (refused d) n answer read zeros words put = absurd (let apart : _≡_ {A = ℕ} 0 1 = cc in omega arith)

@@ -10,13 +10,15 @@ use borrow.Author.Tests.{leb-true}
 use lib.Dec.{leb}
 use lib.ListN.{length}
 use Rattle.text.proofs.Bools.{and-true}
+use Rattle.reflection.specs.Limits.{chunkLimit}
+use Rattle.reflection.specs.Refusals.{notReadable, outputTooSmall}
 use Rattle.reflection.specs.declared.ResourceDef.{ResourceDef as Header}
 use Rattle.reflection.specs.Outcome.{Outcome, ok, refused, because}
 use Rattle.reflection.specs.Reflection.{ResourceDef}
 use Rattle.reflection.specs.Contents.{Bytes}
 use Rattle.readable.specs.Readable.{held, readableContents}
 use Rattle.readable.proofs.Bools.{check-was}
-use Rattle.emit.specs.Written.{fitting}
+use Rattle.emit.specs.Written.{fitsIn, fitting}
 use Rattle.writing.specs.Canonical.{canonical}
 use Rattle.writing.specs.Payload.{Part, wholeChunk, written, unedited, asPart, payloadOf, payload}
 use Rattle.payload.specs.declared.Payload.{Payload}
@@ -38,31 +40,31 @@ answer-table chunk (ok (written bytes)) n = refl
 answer-table chunk (refused e) n = refl
 
 module _ {payload : Payload} (long : ℕ) where
-  pub chunk-fits : PayloadFits long payload → payload ≡ Chunk → long ≤ 65536
+  pub chunk-fits : PayloadFits long payload → payload ≡ Chunk → long ≤ chunkLimit
   chunk-fits fits is = rw is at fits
 
-  pub output-fits : {n : ℕ} → PayloadFits long payload → payload ≡ Output n → n ≤ 65536
+  pub output-fits : {n : ℕ} → PayloadFits long payload → payload ≡ Output n → n ≤ chunkLimit
   output-fits fits is = rw is at fits
 
-written-fits : (long room : ℕ) (bytes : Bytes) (fits : Bool) → leb (length bytes) (min room 65536) ≡ fits
-    → PayloadFits long (payloadAnswer (asPart (cond fits (ok bytes) (refused (because 17)))))
+written-fits : (long room : ℕ) (bytes : Bytes) (fits : Bool) → fitsIn room (length bytes) ≡ fits
+    → PayloadFits long (payloadAnswer (asPart (cond fits (ok bytes) (refused (because outputTooSmall)))))
 unfolding payloadAnswer asPart
-written-fits long room bytes true h = omega (arith, leb-true (length bytes) (min room 65536) h)
+written-fits long room bytes true h = omega (arith, leb-true (length bytes) (min room chunkLimit) h)
 written-fits long room bytes false h = tt
 
-unedited-fits : (long room : ℕ) (bytes : Bytes) (whole : Bool) → long ≤ 65536
+unedited-fits : (long room : ℕ) (bytes : Bytes) (whole : Bool) → long ≤ chunkLimit
     → PayloadFits long (payloadAnswer (cond whole (ok wholeChunk) (asPart (fitting room (ok bytes)))))
 unfolding payloadAnswer fitting
 unedited-fits long room bytes true short = short
-unedited-fits long room bytes false short = written-fits long room bytes (leb (length bytes) (min room 65536)) refl
+unedited-fits long room bytes false short = written-fits long room bytes (fitsIn room (length bytes)) refl
 
-readable-fits : (long room : ℕ) (bytes : Bytes) (whole good : Bool) → long ≤ 65536
-    → PayloadFits long (payloadAnswer (cond good (cond whole (ok wholeChunk) (asPart (fitting room (ok bytes)))) (refused (because 16))))
+readable-fits : (long room : ℕ) (bytes : Bytes) (whole good : Bool) → long ≤ chunkLimit
+    → PayloadFits long (payloadAnswer (cond good (cond whole (ok wholeChunk) (asPart (fitting room (ok bytes)))) (refused (because notReadable))))
 unfolding payloadAnswer
 readable-fits long room bytes whole true short = unedited-fits long room bytes whole short
 readable-fits long room bytes whole false short = tt
 
-fits-in : (room : ℕ) (chunk : Bytes) (r : Option (ResourceDef Bytes Bytes)) → ((c : ResourceDef Bytes Bytes) → r ≡ some c → length chunk ≤ 65536)
+fits-in : (room : ℕ) (chunk : Bytes) (r : Option (ResourceDef Bytes Bytes)) → ((c : ResourceDef Bytes Bytes) → r ≡ some c → length chunk ≤ chunkLimit)
     → (enough : Bool) → PayloadFits (length chunk) (payloadAnswer (payloadWith enough room chunk r))
 unfolding payloadAnswer payloadWith payload payloadOf
 fits-in room chunk none short true = tt
@@ -70,12 +72,12 @@ fits-in room chunk (some c) short true = readable-fits (length chunk) room (cano
 fits-in room chunk r short false = tt
 
 module _ (chunk edits : Bytes) (h : Header) (bindings buffers variables types : List ℕ) where
-  held-short : (c : ResourceDef Bytes Bytes) → held chunk edits h bindings buffers variables types ≡ some c → length chunk ≤ 65536
+  held-short : (c : ResourceDef Bytes Bytes) → held chunk edits h bindings buffers variables types ≡ some c → length chunk ≤ chunkLimit
   unfolding held
   held-short c e =
-      let (long, e₁) = check-was (leb (length chunk) 65536 && leb (length edits) 65536) _ c e in
-      let (chunk-long, edits-long) = and-true (leb (length chunk) 65536) (leb (length edits) 65536) long in
-      leb-true (length chunk) 65536 chunk-long
+      let (long, e₁) = check-was (leb (length chunk) chunkLimit && leb (length edits) chunkLimit) _ c e in
+      let (chunk-long, edits-long) = and-true (leb (length chunk) chunkLimit) (leb (length edits) chunkLimit) long in
+      leb-true (length chunk) chunkLimit chunk-long
 
   pub payload-fits : (room : ℕ) (enough : Bool) {p : Payload} → p ≡ payloadAnswer (payloadWith enough room chunk (held chunk edits h bindings buffers variables types))
       → PayloadFits (length chunk) p

@@ -8,12 +8,14 @@ use native.Mathlib.Omega.{arith}
 use borrow.Author.Tests.{leb-true}
 use lib.Dec.{leb}
 use lib.ListN.{length}
+use Rattle.reflection.specs.Limits.{chunkLimit}
+use Rattle.reflection.specs.Refusals.{noRoom, outputTooSmall}
 use Rattle.reflection.specs.Outcome.{Outcome, ok, refused, because}
 use Rattle.reflection.specs.Reflection.{ResourceDef}
 use Rattle.reflection.specs.Contents.{Bytes}
 use Rattle.emit.specs.declared.Written.{Written}
 use Rattle.emit.specs.declared.Written.the-variants.{Wrote}
-use Rattle.emit.specs.Written.{fitting, writtenOf, outputOf}
+use Rattle.emit.specs.Written.{fitsIn, fitting, writtenOf, outputOf}
 use Rattle.writing.specs.Outcome.{scratchSize, canonicalOr16, write}
 use Rattle.nontrefalcu.specs.Exports.{numberOf, resultTable, oneWord, lengthTable, writtenLength, LengthFits}
 
@@ -27,18 +29,18 @@ unfolding writtenOf writtenLength resultTable
 written-table (ok bytes) n = refl
 written-table (refused e) n = refl
 
-fits-by-test : (room : ℕ) (bytes : List ℕ) (fits : Bool) → leb (length bytes) (min room 65536) ≡ fits
-    → LengthFits (writtenOf (cond fits (ok bytes) (refused (because 17))))
+fits-by-test : (room : ℕ) (bytes : List ℕ) (fits : Bool) → fitsIn room (length bytes) ≡ fits
+    → LengthFits (writtenOf (cond fits (ok bytes) (refused (because outputTooSmall))))
 unfolding writtenOf
-fits-by-test room bytes true h = omega (arith, leb-true (length bytes) (min room 65536) h)
+fits-by-test room bytes true h = omega (arith, leb-true (length bytes) (min room chunkLimit) h)
 fits-by-test room bytes false h = tt
 
 fitting-fits : (room : ℕ) (out : Outcome (List ℕ)) → LengthFits (writtenOf (fitting room out))
 unfolding fitting writtenOf
-fitting-fits room (ok bytes) = fits-by-test room bytes (leb (length bytes) (min room 65536)) refl
+fitting-fits room (ok bytes) = fits-by-test room bytes (fitsIn room (length bytes)) refl
 fitting-fits room (refused e) = tt
 
-fits-by-scratch : (enough : Bool) (room : ℕ) (out : Outcome (List ℕ)) → LengthFits (writtenOf (cond enough (fitting room out) (refused (because 15))))
+fits-by-scratch : (enough : Bool) (room : ℕ) (out : Outcome (List ℕ)) → LengthFits (writtenOf (cond enough (fitting room out) (refused (because noRoom))))
 unfolding writtenOf
 fits-by-scratch true room out = fitting-fits room out
 fits-by-scratch false room out = tt
@@ -51,7 +53,7 @@ module _ {written : Written} where
   unfolding write
   canonical-fits scratch room r answer = rw answer (fits-by-scratch (leb scratchSize scratch) room (canonicalOr16 r))
 
-  pub wrote-fits : {n : ℕ} → LengthFits written → written ≡ Wrote n → n ≤ 65536
+  pub wrote-fits : {n : ℕ} → LengthFits written → written ≡ Wrote n → n ≤ chunkLimit
   wrote-fits fits wrote = rw wrote at fits
 
   -- what the writing function and `hand_length` ensure, for the outcome that was asked for

@@ -3,6 +3,7 @@ use mathlib.Core.List.{List, [], _∷_}
 use Prim.Native.Nat.{ℕ, _≤_}
 use lib.ListN.{length, replicate, getD}
 use Rattle.words.specs.Splice.{splice}
+use Rattle.reflection.specs.Limits.{chunkLimit}
 use Rattle.reflection.specs.declared.Text.{Text}
 use Rattle.reflection.specs.declared.ResourceDef.{ResourceDef as Header}
 use Rattle.reflection.specs.Outcome.{Outcome, ok, refused}
@@ -30,7 +31,7 @@ unfoldable pub resultTable : {A : Type 0} → (A → List ℕ) → Outcome A →
 resultTable words (ok x) n = splice (replicate n 0) 0 (words x)
 resultTable words (refused e) n = replicate n 0
 
--- The header's twelve words, and a lent header of n words.
+-- The header's words, and a lent header of n words.
 unfoldable pub headerWords : Header → List ℕ
 headerWords h =
     h .«target_version» ∷ h .«compile_flags» ∷ h .creator .source ∷ h .creator .place ∷ h .creator .length
@@ -78,7 +79,7 @@ understood (NotUnderstood e) = refused e
 
 -- A written length is at most 65,536, so it is a word.
 abbrev pub LengthFits : Written → Type 0
-LengthFits (Wrote n) = n ≤ 65536
+LengthFits (Wrote n) = n ≤ chunkLimit
 LengthFits (Refused e) = Unit
 
 -- The spelling of the type that is record 0 of a table, for an output as long as this.

@@ -2,6 +2,7 @@
 use mathlib.Core.List.{List, [], _∷_}
 use Prim.Native.Nat.{ℕ, _≤_}
 use lib.ListN.{length}
+use Rattle.reflection.specs.Limits.{chunkLimit}
 use Rattle.reflection.specs.Outcome.{Outcome, ok, refused}
 use Rattle.readable.specs.Readable.{held}
 use Rattle.writing.specs.Payload.{Part, wholeChunk, written}
@@ -29,8 +30,8 @@ payloadInto chunk edits header bindings buffers variables types foundBindings fo
 
 -- Lengths that are words: the chunk's where the payload is the chunk, the written bytes' where it is the output.
 abbrev pub PayloadFits : ℕ → Payload → Type 0
-PayloadFits chunk Chunk = chunk ≤ 65536
-PayloadFits chunk (Output n) = n ≤ 65536
+PayloadFits chunk Chunk = chunk ≤ chunkLimit
+PayloadFits chunk (Output n) = n ≤ chunkLimit
 PayloadFits chunk (Refused e) = Unit
 
 -- The answer as an outcome.

@@ -7,8 +7,8 @@ ghost use Rattle.nontrefalcu.specs.Exports.{numberOf, headerWords, heade
 use reader::Parsed;
 use reflection::ResourceDef;
 
-// The header's twelve words.
-fn header_words(def: ResourceDef) -> [u32; 12]
+// The header's words.
+fn header_words(def: ResourceDef) -> [u32; reflection::HEADER_WORDS]
     ensures { λ r. ⌜ r ≡ headerWords def ⌝ }
 {
     let creator = def.creator;
@@ -51,8 +51,8 @@ pub extern "C" fn nontrefalcu_parse_rdef(
     match parsed {
         Parsed::Refused(refusal) => refusal.number,
         Parsed::Read(def) => {
-            let twelve = header_words(def);
-            words::put_words(header, 0, &twelve);
+            let words = header_words(def);
+            words::put_words(header, 0, &words);
             0
         }
     }

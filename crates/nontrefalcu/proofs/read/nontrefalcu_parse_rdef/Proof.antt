@@ -67,12 +67,12 @@ same-length-10 c = search needs
 returns-2 : tie.Need-returns-2
 returns-2 c =
     let put = c .before .before .put-words .ensures in
-    let twelve = c .before .before .before .before .before .header-words .ensures in
+    let words = c .before .before .before .before .before .header-words .ensures in
     let read = c .before .before .before .before .before .before .before .parsed2 .given in
     let reading = c .before .before .before .before .before .before .before .before .before .before .before .before .before .before .before .before .before in
     let zeros = reading .before .before .before .before .before .before .before .clear .ensures in (
       read-number _ (reading .parse-rdef .ensures .0) (read .1),
-      (read-header _ _ (reading .parse-rdef .ensures .0) (read .1) zeros twelve put, reading .parse-rdef .ensures .1),
+      (read-header _ _ (reading .parse-rdef .ensures .0) (read .1) zeros words put, reading .parse-rdef .ensures .1),
     )
 
 pub nontrefalcu-parse-rdef-spec : {M : Type 1} → statement M
