@@ -6,12 +6,12 @@ use reader::Parsed;
 // Prints the canonical form of what the chunk reads as, made in `form`. Nothing is edited: the text of edits is empty.
 fn canonical(
     chunk: &[u8],
-    bindings: &mut [u32; 12288],
-    buffers: &mut [u32; 448],
-    variables: &mut [u32; 26624],
-    types: &mut [u32; 69632],
-    scratch: &mut [u32; 95360],
-    form: &mut [u8; 65536],
+    bindings: &mut [u32; reflection::BINDING_TABLE],
+    buffers: &mut [u32; reflection::BUFFER_TABLE],
+    variables: &mut [u32; reflection::VARIABLE_TABLE],
+    types: &mut [u32; reflection::TYPE_TABLE],
+    scratch: &mut [u32; writing::SCRATCH_WORDS],
+    form: &mut [u8; reflection::CHUNK_LIMIT],
 ) {
     let mut out = [0u8; 8192];
     let mut used: usize = 0;
@@ -47,14 +47,14 @@ fn canonical(
 
 // The tables have document 01's whole room. One byte more than the longest chunk is read, so that a longer one is seen.
 fn main() {
-    let mut chunk = [0u8; 65537];
+    let mut chunk = [0u8; reflection::CHUNK_LIMIT + 1];
     let n = io::read_full(STDIN_FILENO, &mut chunk);
-    let mut bindings = [0u32; 12288];
-    let mut buffers = [0u32; 448];
-    let mut variables = [0u32; 26624];
-    let mut types = [0u32; 69632];
-    let mut scratch = [0u32; 95360];
-    let mut form = [0u8; 65536];
+    let mut bindings = [0u32; reflection::BINDING_TABLE];
+    let mut buffers = [0u32; reflection::BUFFER_TABLE];
+    let mut variables = [0u32; reflection::VARIABLE_TABLE];
+    let mut types = [0u32; reflection::TYPE_TABLE];
+    let mut scratch = [0u32; writing::SCRATCH_WORDS];
+    let mut form = [0u8; reflection::CHUNK_LIMIT];
     canonical(
         &chunk[..n],
         &mut bindings,

@@ -40,7 +40,7 @@ fn after_bytes(all: &[u8], at: usize) -> usize {
 pub fn stored_at(all: &[u8], at: usize) -> Stored {
     let edits = after_bytes(all, at);
     let header = after_bytes(all, edits);
-    let bindings = words_on(all, header, 12);
+    let bindings = words_on(all, header, reflection::HEADER_WORDS);
     let buffers = after_table(all, bindings);
     let variables = after_table(all, buffers);
     let types = after_table(all, variables);

@@ -2,36 +2,50 @@
 // among them, with scratch and output of some length, and the answers (oracle/README.md has its form). The number, the length, every byte of the
 // output, those past the form too, and every word of scratch are compared. Prints the index of each case that differs, then how many cases were
 // replayed, how many were written, how many refused with each number, and how many differ.
+use cases_file::ANSWERS;
 use cases_file::BEYOND;
 use cases_file::line;
 use cases_file::one_more;
 
 mod file;
 mod replay;
+mod room;
 
 // Prints all counts.
-fn lines(out: &mut [u8; 8192], used: &mut usize, cases: u32, answers: &[u32; 19], different: u32) {
+fn lines(
+    out: &mut [u8; 8192],
+    used: &mut usize,
+    cases: u32,
+    answers: &[u32; ANSWERS],
+    different: u32,
+) {
     line(out, used, b"cases", cases);
     line(out, used, b"written", answers[0]);
-    cases_file::refused_lines(out, used, answers, 15, 18);
+    cases_file::refused_lines(
+        out,
+        used,
+        answers,
+        reflection::NO_ROOM,
+        reflection::OUTPUT_TOO_SMALL,
+    );
     line(out, used, b"different", different);
 }
 
 // Replays the cases of a file of `n` bytes, one after the other. A file that is cut, or that has more than its cases, is a bad one.
 fn replay_all(
-    file: &[u8; 4194304],
+    file: &[u8; BEYOND],
     n: usize,
-    bindings: &mut [u32; 12544],
-    buffers: &mut [u32; 512],
-    variables: &mut [u32; 26880],
-    types: &mut [u32; 69888],
-    scratch: &mut [u32; 101376],
-    lent: &mut [u8; 70656],
+    bindings: &mut [u32; room::BINDINGS],
+    buffers: &mut [u32; room::BUFFERS],
+    variables: &mut [u32; room::VARIABLES],
+    types: &mut [u32; room::TYPES],
+    scratch: &mut [u32; room::SCRATCH],
+    lent: &mut [u8; room::OUTPUT],
 ) {
     let all = words::part(file, 0, n);
     let mut out = [0u8; 8192];
     let mut used: usize = 0;
-    let mut answers = [0u32; 19];
+    let mut answers = [0u32; ANSWERS];
     let mut different: u32 = 0;
     let count = words::word_at(all, 0);
     let mut at = cases_file::bytes_on(all, 0, 4);
@@ -55,15 +69,15 @@ fn replay_all(
 
 // Tables, scratch and output have more than document 01's whole room.
 fn main() {
-    let mut all = [0u8; 4194304];
+    let mut all = [0u8; BEYOND];
     let n = cases_file::read_cases(&mut all);
     if n < BEYOND {
-        let mut bindings = [0u32; 12544];
-        let mut buffers = [0u32; 512];
-        let mut variables = [0u32; 26880];
-        let mut types = [0u32; 69888];
-        let mut scratch = [0u32; 101376];
-        let mut lent = [0u8; 70656];
+        let mut bindings = [0u32; room::BINDINGS];
+        let mut buffers = [0u32; room::BUFFERS];
+        let mut variables = [0u32; room::VARIABLES];
+        let mut types = [0u32; room::TYPES];
+        let mut scratch = [0u32; room::SCRATCH];
+        let mut lent = [0u8; room::OUTPUT];
         replay_all(
             &all,
             n,

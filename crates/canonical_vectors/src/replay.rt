@@ -2,6 +2,7 @@
 use crate::file::Stored;
 use crate::file::number_at;
 use crate::file::stored_at;
+use crate::room;
 use cases_file::BEYOND;
 use cases_file::both;
 use cases_file::bytes_on;
@@ -59,7 +60,7 @@ fn replay_lent<'a>(
     at: usize,
     chunk: &'a [u8],
     edits: &'a [u8],
-    header: &[u32; 12],
+    header: &[u32; reflection::HEADER_WORDS],
     bindings: &[u32],
     buffers: &[u32],
     variables: &[u32],
@@ -96,7 +97,7 @@ fn replay_held(
     scratch: &mut [u32],
     out: &mut [u8],
 ) -> Replayed {
-    let mut header = [0u32; 12];
+    let mut header = [0u32; reflection::HEADER_WORDS];
     copy_words(&mut header, all, stored.header);
     let chunk = words::part(all, stored.chunk, stored.chunk_length);
     let edits = words::part(all, stored.edits, stored.edits_length);
@@ -170,12 +171,12 @@ fn copy_table(table: &mut [u32], all: &[u8], at: usize, n: usize) {
 pub fn replay(
     all: &[u8],
     at: usize,
-    bindings: &mut [u32; 12544],
-    buffers: &mut [u32; 512],
-    variables: &mut [u32; 26880],
-    types: &mut [u32; 69888],
-    scratch: &mut [u32; 101376],
-    lent: &mut [u8; 70656],
+    bindings: &mut [u32; room::BINDINGS],
+    buffers: &mut [u32; room::BUFFERS],
+    variables: &mut [u32; room::VARIABLES],
+    types: &mut [u32; room::TYPES],
+    scratch: &mut [u32; room::SCRATCH],
+    lent: &mut [u8; room::OUTPUT],
 ) -> Replayed {
     let stored = stored_at(all, at);
     copy_table(bindings, all, stored.bindings, stored.binding_words);

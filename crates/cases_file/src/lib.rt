@@ -4,6 +4,7 @@ use libc::STDOUT_FILENO;
 
 mod summary;
 
+pub use summary::ANSWERS;
 pub use summary::count_answer;
 pub use summary::finish;
 pub use summary::line;
@@ -14,7 +15,7 @@ pub use summary::refused_lines;
 pub const BEYOND: usize = 4194304;
 
 // Reads the file `cases`; the answer is its length. Where there is none, or a longer one, a line says so and the answer is `BEYOND`.
-pub fn read_cases(all: &mut [u8; 4194304]) -> usize {
+pub fn read_cases(all: &mut [u8; BEYOND]) -> usize {
     let cases = os::open_read(b"cases");
     if cases < 0 {
         io::write_all(STDOUT_FILENO, b"no file\n");

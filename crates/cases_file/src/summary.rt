@@ -1,4 +1,8 @@
 // What is printed: lines of words and numbers, with a tab between two.
+
+// How many answers are told apart: 0 and each refusal's number.
+pub const ANSWERS: usize = reflection::NO_SPELLING as usize + 1;
+
 pub fn line(out: &mut [u8; 8192], used: &mut usize, name: &[u8], n: u32) {
     output::put_bytes(out, used, name);
     output::put_byte(out, used, b'\t');
@@ -6,20 +10,21 @@ pub fn line(out: &mut [u8; 8192], used: &mut usize, name: &[u8], n: u32) {
     output::put_byte(out, used, b'\n');
 }
 
-// How many cases were refused with each number, from the first on up to the end.
+// How many cases were refused with each number, from the first to the last.
 pub fn refused_lines(
     out: &mut [u8; 8192],
     used: &mut usize,
-    answers: &[u32; 19],
-    first: usize,
-    end: usize,
+    answers: &[u32; ANSWERS],
+    first: u32,
+    last: u32,
 ) {
-    for number in first..end {
-        if number < 19 {
+    for number in first..=last {
+        let k = number as usize;
+        if k < ANSWERS {
             output::put_bytes(out, used, b"refused\t");
-            output::put_decimal(out, used, number as u32);
+            output::put_decimal(out, used, number);
             output::put_byte(out, used, b'\t');
-            output::put_decimal(out, used, answers[number]);
+            output::put_decimal(out, used, answers[k]);
             output::put_byte(out, used, b'\n');
         }
     }
@@ -31,9 +36,9 @@ pub fn one_more(n: u32) -> u32 {
 }
 
 // Counts an answer: 0, or a refusal's number.
-pub fn count_answer(answers: &mut [u32; 19], number: u32) {
+pub fn count_answer(answers: &mut [u32; ANSWERS], number: u32) {
     let k = number as usize;
-    if k < 19 {
+    if k < ANSWERS {
         answers[k] = one_more(answers[k]);
     }
 }

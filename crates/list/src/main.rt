@@ -8,7 +8,7 @@ use reflection::ResourceBinding;
 fn binding_line(
     out: &mut [u8; 8192],
     used: &mut usize,
-    line: &mut [u8; 65536],
+    line: &mut [u8; reflection::CHUNK_LIMIT],
     chunk: &[u8],
     b: ResourceBinding,
 ) {
@@ -32,7 +32,7 @@ fn binding_lines(
     bindings: &[u32],
     count: usize,
 ) {
-    let mut line = [0u8; 65536];
+    let mut line = [0u8; reflection::CHUNK_LIMIT];
     let mut i: usize = 0;
     while i < count {
         binding_line(
@@ -49,10 +49,10 @@ fn binding_lines(
 // Prints the bindings of the chunk, or why it was refused.
 fn list(
     chunk: &[u8],
-    bindings: &mut [u32; 12288],
-    buffers: &mut [u32; 448],
-    variables: &mut [u32; 26624],
-    types: &mut [u32; 69632],
+    bindings: &mut [u32; reflection::BINDING_TABLE],
+    buffers: &mut [u32; reflection::BUFFER_TABLE],
+    variables: &mut [u32; reflection::VARIABLE_TABLE],
+    types: &mut [u32; reflection::TYPE_TABLE],
 ) {
     let mut out = [0u8; 8192];
     let mut used: usize = 0;
@@ -76,12 +76,12 @@ fn list(
 
 // The tables have document 01's whole room. One byte more than the longest chunk is read, so that a longer one is seen.
 fn main() {
-    let mut chunk = [0u8; 65537];
+    let mut chunk = [0u8; reflection::CHUNK_LIMIT + 1];
     let n = io::read_full(STDIN_FILENO, &mut chunk);
-    let mut bindings = [0u32; 12288];
-    let mut buffers = [0u32; 448];
-    let mut variables = [0u32; 26624];
-    let mut types = [0u32; 69632];
+    let mut bindings = [0u32; reflection::BINDING_TABLE];
+    let mut buffers = [0u32; reflection::BUFFER_TABLE];
+    let mut variables = [0u32; reflection::VARIABLE_TABLE];
+    let mut types = [0u32; reflection::TYPE_TABLE];
     list(
         &chunk[..n],
         &mut bindings,

@@ -50,7 +50,7 @@ fn after_eight_zeros(line: &[u8], n: usize) -> bool {
 }
 
 // Keeps one byte more of a text of which n bytes are kept; the answer is how many there are then, one past the longest where it has no room.
-fn keep(line: &mut [u8; 1048576], n: usize, b: u8) -> usize {
+fn keep(line: &mut [u8; LONGEST], n: usize, b: u8) -> usize {
     if LONGEST <= n {
         return LONGEST + 1;
     }
@@ -64,7 +64,7 @@ fn keep(line: &mut [u8; 1048576], n: usize, b: u8) -> usize {
 // Answers a text of which `length` bytes are kept; one that had no room is no spelling.
 fn answer(out: &mut [u8; 8192], used: &mut usize, line: &[u8], length: usize) {
     if LONGEST < length {
-        output::put_refused(out, used, 18);
+        output::put_refused(out, used, reflection::NO_SPELLING);
         return;
     }
     let spelled = spelling::parse_hlsl_type(words::part(line, 0, length));
@@ -83,7 +83,7 @@ fn answer(out: &mut [u8; 8192], used: &mut usize, line: &[u8], length: usize) {
 fn answer_block(
     out: &mut [u8; 8192],
     used: &mut usize,
-    line: &mut [u8; 1048576],
+    line: &mut [u8; LONGEST],
     held: usize,
     block: &[u8],
 ) -> usize {
@@ -106,7 +106,7 @@ fn answer_block(
 fn answer_some(
     out: &mut [u8; 8192],
     used: &mut usize,
-    line: &mut [u8; 1048576],
+    line: &mut [u8; LONGEST],
     held: &mut usize,
 ) -> bool {
     let mut block = io::large_buffer();
@@ -118,7 +118,7 @@ fn answer_some(
 }
 
 // Answers every line. A proved loop has to end, and nothing says that the input does, so it counts its turns down from a number that no run uses up.
-fn answer_all(line: &mut [u8; 1048576]) {
+fn answer_all(line: &mut [u8; LONGEST]) {
     let mut out = [0u8; 8192];
     let mut used: usize = 0;
     let mut held: usize = 0;
@@ -133,6 +133,6 @@ fn answer_all(line: &mut [u8; 1048576]) {
 }
 
 fn main() {
-    let mut line = [0u8; 1048576];
+    let mut line = [0u8; LONGEST];
     answer_all(&mut line);
 }

@@ -2,6 +2,7 @@
 // (oracle/README.md has its form). The number, the length and every byte of the output are compared, the bytes past the text too; of a spelling that
 // is read the five numbers. Prints the index of each case that differs, then how many cases were replayed, how many of each kind, how many were
 // answered, how many refused with each number, and how many differ.
+use cases_file::ANSWERS;
 use cases_file::BEYOND;
 use cases_file::line;
 use cases_file::one_more;
@@ -22,7 +23,7 @@ fn lines(
     used: &mut usize,
     cases: u32,
     kinds: &[u32; 5],
-    answers: &[u32; 19],
+    answers: &[u32; ANSWERS],
     different: u32,
 ) {
     line(out, used, b"cases", cases);
@@ -31,17 +32,23 @@ fn lines(
     line(out, used, b"parse type", kinds[3]);
     line(out, used, b"list binding", kinds[4]);
     line(out, used, b"answered", answers[0]);
-    cases_file::refused_lines(out, used, answers, 16, 19);
+    cases_file::refused_lines(
+        out,
+        used,
+        answers,
+        reflection::NOT_READABLE,
+        reflection::NO_SPELLING,
+    );
     line(out, used, b"different", different);
 }
 
 // Replays the cases of a file of `n` bytes, one after the other. A file that is cut, or that has more than its cases, is a bad one.
-fn replay_all(file: &[u8; 4194304], n: usize, lent: &mut [u8; 66560]) {
+fn replay_all(file: &[u8; BEYOND], n: usize, lent: &mut [u8; replay::LENT]) {
     let all = words::part(file, 0, n);
     let mut out = [0u8; 8192];
     let mut used: usize = 0;
     let mut kinds = [0u32; 5];
-    let mut answers = [0u32; 19];
+    let mut answers = [0u32; ANSWERS];
     let mut different: u32 = 0;
     let count = words::word_at(all, 0);
     let mut at = cases_file::bytes_on(all, 0, 4);
@@ -66,10 +73,10 @@ fn replay_all(file: &[u8; 4194304], n: usize, lent: &mut [u8; 66560]) {
 
 // The output has more than document 01's whole room.
 fn main() {
-    let mut all = [0u8; 4194304];
+    let mut all = [0u8; BEYOND];
     let n = cases_file::read_cases(&mut all);
     if n < BEYOND {
-        let mut lent = [0u8; 66560];
+        let mut lent = [0u8; replay::LENT];
         replay_all(&all, n, &mut lent);
     }
 }

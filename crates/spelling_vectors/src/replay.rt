@@ -7,6 +7,9 @@ use cases_file::holds;
 use cases_file::leaves;
 use cases_file::words_on;
 
+// How many bytes of output are lent: more than document 01's whole room.
+pub const LENT: usize = reflection::CHUNK_LIMIT + 1024;
+
 // The query's kind, the port's answer, whether all of it is as stored, and where the next case begins: past the file's end where this is no case.
 pub struct Replayed {
     pub kind: u32,
@@ -43,11 +46,11 @@ fn query_at(all: &[u8], at: usize, records: usize) -> Query {
     }
 }
 
-// The 17 words of the file from `at` on.
-fn words_at(all: &[u8], at: usize) -> [u32; 17] {
-    let mut words = [0u32; 17];
+// The words of the file from `at` on, as many as a type's node has, the longest record.
+fn words_at(all: &[u8], at: usize) -> [u32; reflection::TYPE_WORDS] {
+    let mut words = [0u32; reflection::TYPE_WORDS];
     let mut from = at;
-    for i in 0..17 {
+    for i in 0..reflection::TYPE_WORDS {
         words[i] = words::word_at(all, from);
         from = words_on(all, from, 1);
     }
@@ -59,8 +62,8 @@ fn answer<'a>(
     chunk: &'a [u8],
     edits: &'a [u8],
     kind: u32,
-    words: &[u32; 17],
-    more: &[u32; 17],
+    words: &[u32; reflection::TYPE_WORDS],
+    more: &[u32; reflection::TYPE_WORDS],
     out: &mut [u8],
     length: &mut [u32],
 ) -> u32 {
@@ -78,7 +81,7 @@ fn replay_query(all: &[u8], kind: u32, query: Query, out: &mut [u8]) -> Replayed
     let chunk = words::part(all, query.chunk, query.chunk_length);
     let edits = words::part(all, query.edits, query.edits_length);
     let words = words_at(all, query.words);
-    let more = words_at(all, words_on(all, query.words, 17));
+    let more = words_at(all, words_on(all, query.words, reflection::TYPE_WORDS));
     let mut length = [0xdddd_ddddu32; 2];
     fill(out, 0xdd);
     let number = answer(chunk, edits, kind, &words, &more, out, &mut length);
@@ -135,14 +138,20 @@ fn replay_spelling(all: &[u8], at: usize) -> Replayed {
 }
 
 // Replays the case that begins at `at`.
-pub fn replay(all: &[u8], at: usize, lent: &mut [u8; 66560]) -> Replayed {
+pub fn replay(all: &[u8], at: usize, lent: &mut [u8; LENT]) -> Replayed {
     let kind = words::word_at(all, at);
     let query = words_on(all, at, 1);
     match kind {
-        1 => replay_text(all, query, kind, 17, lent),
-        2 => replay_text(all, query, kind, 30, lent),
+        1 => replay_text(all, query, kind, reflection::TYPE_WORDS, lent),
+        2 => replay_text(
+            all,
+            query,
+            kind,
+            reflection::TYPE_WORDS + reflection::VARIABLE_WORDS,
+            lent,
+        ),
         3 => replay_spelling(all, query),
-        4 => replay_text(all, query, kind, 12, lent),
+        4 => replay_text(all, query, kind, reflection::BINDING_WORDS, lent),
         _ => no_case(kind),
     }
 }

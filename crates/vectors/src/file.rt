@@ -48,10 +48,10 @@ pub fn stored_at(all: &[u8], at: usize) -> Stored {
         length: length,
         number: 0,
         words: first,
-        header: 12,
-        bindings: header_word(all, first, 8) * 12,
-        buffers: header_word(all, first, 9) * 7,
-        variables: header_word(all, first, 10) * 13,
-        types: header_word(all, first, 11) * 17,
+        header: reflection::HEADER_WORDS,
+        bindings: header_word(all, first, 8) * reflection::BINDING_WORDS,
+        buffers: header_word(all, first, 9) * reflection::BUFFER_WORDS,
+        variables: header_word(all, first, 10) * reflection::VARIABLE_WORDS,
+        types: header_word(all, first, 11) * reflection::TYPE_WORDS,
     }
 }

@@ -15,11 +15,11 @@ pub struct Replayed {
 pub fn replay(
     all: &[u8],
     at: usize,
-    header: &mut [u32; 12],
-    bindings: &mut [u32; 12288],
-    buffers: &mut [u32; 448],
-    variables: &mut [u32; 26624],
-    types: &mut [u32; 69632],
+    header: &mut [u32; reflection::HEADER_WORDS],
+    bindings: &mut [u32; reflection::BINDING_TABLE],
+    buffers: &mut [u32; reflection::BUFFER_TABLE],
+    variables: &mut [u32; reflection::VARIABLE_TABLE],
+    types: &mut [u32; reflection::TYPE_TABLE],
 ) -> Replayed {
     let stored = stored_at(all, at);
     let chunk = words::part(all, stored.chunk, stored.length);

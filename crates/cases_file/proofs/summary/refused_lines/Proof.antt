@@ -5,22 +5,22 @@ use Rattle.cases_file.proofs.summary.refused_lines.Statement.{statement
 use Rattle.cases_file.proofs.summary.refused_lines.Tie as tie
 
 abbrev Inv-loop : tie.InvT-loop
-Inv-loop out₀ used₀ answers first end number₀ t7 out used number = Unit
+Inv-loop out₀ used₀ answers first last number₀ t8 out used number = Unit
 
 abbrev μ-loop : tie.MeasureT-loop
-μ-loop out₀ used₀ answers first end number₀ t7 out used number = end - number
+μ-loop out₀ used₀ answers first last number₀ t8 out used number = last - number
 
 loop-holds : tie.Need-loop-holds Inv-loop μ-loop
 loop-holds c = search needs
+
+cast-k : tie.Need-cast-k Inv-loop μ-loop
+cast-k c = search needs
 
 slice-aggregate-put-bytes : tie.Need-slice-aggregate-put-bytes Inv-loop μ-loop
 slice-aggregate-put-bytes c = search needs
 
 put-bytes-requires : tie.Need-put-bytes-requires Inv-loop μ-loop
 put-bytes-requires c κs = search needs
-
-cast-put-decimal : tie.Need-cast-put-decimal Inv-loop μ-loop
-cast-put-decimal c = search needs
 
 put-decimal-requires : tie.Need-put-decimal-requires Inv-loop μ-loop
 put-decimal-requires c κs = search needs
@@ -52,6 +52,9 @@ loop-again c = search needs
 returns : tie.Need-returns Inv-loop μ-loop
 returns c = search needs
 
+returns-2 : tie.Need-returns-2 Inv-loop μ-loop
+returns-2 c = search needs
+
 pub refused-lines-spec : {M : Type 1} → statement M
 refused-lines-spec =
     tie.close
@@ -59,9 +62,9 @@ refused-lines-spec =
     Inv-loop
     μ-loop
     loop-holds
+    cast-k
     slice-aggregate-put-bytes
     put-bytes-requires
-    cast-put-decimal
     put-decimal-requires
     put-byte-requires
     mul-put-decimal
@@ -71,4 +74,5 @@ refused-lines-spec =
     add-number
     loop-less
     loop-again
-    returns)
+    returns
+    returns-2)

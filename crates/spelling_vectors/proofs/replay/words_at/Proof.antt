@@ -1,6 +1,7 @@
 -- `words_at` is safe and ends: each turn goes to the next word.
 use borrow.Author.Needs.{needs}
 use Prim.Native.Nat.{_-_}
+use Rattle.reflection.specs.Limits.{typeWidth}
 use Rattle.spelling_vectors.proofs.replay.words_at.Statement.{statement}
 use Rattle.spelling_vectors.proofs.replay.words_at.Tie as tie
 
@@ -8,7 +9,7 @@ abbrev Inv-loop : tie.InvT-loop
 Inv-loop all at words₀ from₀ i₀ words from i = Unit
 
 abbrev μ-loop : tie.MeasureT-loop
-μ-loop all at words₀ from₀ i₀ words from i = 17 - i
+μ-loop all at words₀ from₀ i₀ words from i = typeWidth - i
 
 loop-holds : tie.Need-loop-holds Inv-loop μ-loop
 loop-holds c = search needs
