@@ -7,6 +7,7 @@ use Rattle.reflection.specs.Outcome.{ok}
 use Rattle.reflection.specs.Reflection.{ResourceDef, noMember, member, rd11}
 use Rattle.reflection.specs.Texts.{inChunk}
 use Rattle.reflection.specs.Contents.{Bytes}
+use Rattle.reflection.specs.Limits.{bindingRoom, bufferRoom, variableRoom, typeRoom}
 use Rattle.reading.specs.Step.{Room, room, fullRoom}
 use Rattle.writing.specs.EdgeChunks.{header, major4, major5, noText, caseV, caseV5, float, globals, readV}
 use Rattle.worked_examples.specs.Example.{Example, reads, refusal}
@@ -41,13 +42,13 @@ readingExamples =
     ∷ refuses (withType (structOf 92 92)) 14
     -- 15: 65 buffers; in less room no binding, no type
     ∷ refuses (header 65 28 0 0 major4 0 ++ replicate (65 * 24) 0) 15
-    ∷ reads (room 0 64 2048 4096) (oneBinding 0 0 0 0) (refusal 15)
-    ∷ reads (room 1024 64 2048 0) (caseV 0) (refusal 15)
+    ∷ reads (room 0 bufferRoom variableRoom typeRoom) (oneBinding 0 0 0 0) (refusal 15)
+    ∷ reads (room bindingRoom bufferRoom variableRoom 0) (caseV 0) (refusal 15)
     -- "The first fault met is reported": input type before dimension, dimension before flags, flags before the name, room before the record
     ∷ refuses (oneBinding 14 12 0x20 60) 8
     ∷ refuses (oneBinding 0 12 0x20 60) 9
     ∷ refuses (oneBinding 0 0 0x20 60) 10
-    ∷ reads (room 0 64 2048 4096) (header 0 0 1 0 major4 0) (refusal 15)
+    ∷ reads (room 0 bufferRoom variableRoom typeRoom) (header 0 0 1 0 major4 0) (refusal 15)
     -- "P: input type 13 reads, 14 gives 8" (14: the example of 8)
     ∷ readsAs (oneBinding 13 0 0 0) (withBindings (inChunk 0 0) (binding (inChunk 0 0) 13 0 ∷ []))
     -- "P, case V": buffers at 28, variables at 64, type at 92, creator at 108; its default at 108; the same in major 5
