@@ -14,6 +14,10 @@ use Rattle.reading.specs.Step.{Room, Step, _>>=_, check}
 use Rattle.reading.proofs.Steps.{check-holds, check-fails}
 use Rattle.table_walk.specs.Bindings.{codeFault}
 
+-- How a test of a word that was read came out.
+pub came-out : (test : ℕ → Bool) {w w′ : ℕ} {r b : Bool} → w ≡ w′ → r ≡ test w → r ≡ b → test w′ ≡ b
+came-out test is tested came = ap test (sym is) ∙ sym tested ∙ came
+
 module _ (s : List ℕ) (at : ℕ) where
   abbrev inputTypeKnown : Bool
   inputTypeKnown = known inputTypes (wordAt s (at + 4))
