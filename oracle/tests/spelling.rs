@@ -2,14 +2,13 @@
 
 use oracle::generate::{samples as chunks, Generator as Chunks};
 use oracle::model;
-use oracle::rdef::{hlsl_type_name, parse_rdef, MemberDesc, TypeDesc};
+use oracle::rdef::{hlsl_type_name, parse_rdef, TypeDesc};
 use oracle::spelling::check::place;
 use oracle::spelling::generate::{examples, grid, long, samples, with_rooms, Generator};
 use oracle::spelling::model::Model;
 use oracle::spelling::rust::Rust;
 use oracle::spelling::{stored, Query, Speller, KINDS, LONGEST};
 use oracle::tables::Rooms;
-use std::borrow::Cow;
 use std::collections::HashSet;
 
 #[test]
@@ -101,28 +100,6 @@ fn records_give_what_the_structs_give() {
 fn nodes(node: &TypeDesc<'_>, lines: &mut Vec<Option<String>>) {
     lines.push(hlsl_type_name(node));
     node.members.iter().for_each(|member| nodes(&member.member_type, lines));
-}
-
-/// The one record that rdef.rs spells and document 01 refuses: its fields but one have 16 bits in both.
-#[test]
-fn rdef_rs_spells_65_536_members() {
-    let leaf = TypeDesc {
-        class: 0,
-        var_type: 3,
-        rows: 1,
-        columns: 1,
-        elements: 0,
-        members: Vec::new(),
-        sm5_extra: None,
-        name: Cow::Borrowed("S"),
-    };
-    let member = MemberDesc { name: Cow::Borrowed(""), member_type: leaf.clone(), offset: 0 };
-    for (count, number) in [(65_535, 0), (65_536, 16)] {
-        let members = vec![member.clone(); count];
-        assert_eq!(hlsl_type_name(&TypeDesc { members, ..leaf.clone() }).as_deref(), Some("S"));
-        let (buffers, words) = examples::with_name(examples::node([0, 3, 1, 1, 0, count as u32]), 10, b"S");
-        assert_eq!(Model.answer(&Query::TypeName(buffers, words), 1).number, number);
-    }
 }
 
 /// Spelled without a name and read again: the same numbers, but a matrix is of class 3 and what is not
