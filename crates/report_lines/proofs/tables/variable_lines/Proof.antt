@@ -2,8 +2,8 @@
 use borrow.Author.Needs.{needs}
 use native.Mathlib.Omega.{arith}
 use Prim.Native.Nat.{_-_}
-use Rattle.report.proofs.tables.variable_lines.Statement.{statement}
-use Rattle.report.proofs.tables.variable_lines.Tie as tie
+use Rattle.report_lines.proofs.tables.variable_lines.Statement.{statement}
+use Rattle.report_lines.proofs.tables.variable_lines.Tie as tie
 
 abbrev Inv-loop : tie.InvT-loop
 Inv-loop out₀ used₀ chunk def variables types first end node sm5 next₀ i₀ out used next i = Unit

@@ -1,8 +1,8 @@
 -- `type_lines` is safe and ends: each turn leaves one node less, and the depth stays within the levels.
 use borrow.Author.Needs.{needs}
 use Prim.Native.Nat.{_-_, _≤_}
-use Rattle.report.proofs.tables.type_lines.Statement.{statement}
-use Rattle.report.proofs.tables.type_lines.Tie as tie
+use Rattle.report_lines.proofs.tables.type_lines.Statement.{statement}
+use Rattle.report_lines.proofs.tables.type_lines.Tie as tie
 
 abbrev Inv-loop : tie.InvT-loop
 Inv-loop out₀ used₀ chunk sm5 types first end left₀ depth₀ next₀ out used left depth next = depth ≤ 64

@@ -1,8 +1,8 @@
 -- `binding_lines` is safe and ends: each turn leaves one binding less.
 use borrow.Author.Needs.{needs}
 use Prim.Native.Nat.{_-_}
-use Rattle.report.proofs.tables.binding_lines.Statement.{statement}
-use Rattle.report.proofs.tables.binding_lines.Tie as tie
+use Rattle.report_lines.proofs.tables.binding_lines.Statement.{statement}
+use Rattle.report_lines.proofs.tables.binding_lines.Tie as tie
 
 abbrev Inv-loop : tie.InvT-loop
 Inv-loop out₀ used₀ chunk def bindings i₀ out used i = Unit

@@ -1,8 +1,8 @@
 -- `next_member` is safe and ends: each turn goes up one level, and a level is at most the depth it began from.
 use borrow.Author.Needs.{needs}
 use Prim.Native.Nat.{_+_, _≤_}
-use Rattle.report.proofs.tables.next_member.Statement.{statement}
-use Rattle.report.proofs.tables.next_member.Tie as tie
+use Rattle.report_lines.proofs.tables.next_member.Statement.{statement}
+use Rattle.report_lines.proofs.tables.next_member.Tie as tie
 
 abbrev Inv-loop : tie.InvT-loop
 Inv-loop left₀ depth below₀ left below = below ≤ depth + 1

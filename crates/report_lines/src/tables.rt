@@ -8,10 +8,11 @@ use crate::lines::rdef_line;
 use crate::lines::type_line;
 use crate::lines::var_line;
 use reflection::ResourceDef;
+use reflection::TYPE_LEVELS;
 
 // Goes to the next member. `left` has, for each level, how many members are still to come; the deepest level that has any, from `depth` upwards,
 // gives up one. Answers the member's depth, or 0 where no member is still to come.
-fn next_member(left: &mut [u32; 65], depth: usize) -> usize
+fn next_member(left: &mut [u32; TYPE_LEVELS], depth: usize) -> usize
     requires { ⌜ depth ≤ 64 ⌝ }
     ensures { λ r. ⌜ r ≤ depth + 1 ⌝ }
 {
@@ -28,7 +29,7 @@ fn next_member(left: &mut [u32; 65], depth: usize) -> usize
 }
 
 // The types of one variable, from node `first` on, with a member's name and offset before its type. Answers the node after them. There are `end`
-// nodes, none of them deeper than 64.
+// nodes, none of them deeper than the levels.
 fn type_lines(
     out: &mut [u8; 8192],
     used: &mut usize,
@@ -38,7 +39,7 @@ fn type_lines(
     first: usize,
     end: usize,
 ) -> usize {
-    let mut left = [0u32; 65];
+    let mut left = [0u32; TYPE_LEVELS];
     let mut depth: usize = 0;
     let mut next = first;
     while next < end {
@@ -53,7 +54,7 @@ fn type_lines(
         if depth == 0 {
             break;
         }
-        if 64 < depth {
+        if TYPE_LEVELS <= depth {
             break;
         }
     }

@@ -2,8 +2,8 @@
 use borrow.Author.Needs.{needs}
 use native.Mathlib.Omega.{arith}
 use Prim.Native.Nat.{_-_, _≤_, _<_}
-use Rattle.report.proofs.tables.buffer_lines.Statement.{statement}
-use Rattle.report.proofs.tables.buffer_lines.Tie as tie
+use Rattle.report_lines.proofs.tables.buffer_lines.Statement.{statement}
+use Rattle.report_lines.proofs.tables.buffer_lines.Tie as tie
 
 abbrev Inv-loop : tie.InvT-loop
 Inv-loop out₀ used₀ chunk def buffers variables types end variable₀ node₀ i₀ out used variable node i = (variable ≤ end) × (end < 4294967296)
