@@ -56,11 +56,7 @@ impl Comparison for Checker {
     }
 
     fn report(&self) -> String {
-        let mut lines = format!("read {}\n", self.counts[0]);
-        for number in 1..16 {
-            lines += &format!("refused {number} {}\n", self.counts[number]);
-        }
-        lines + &self.tally.to_string()
+        self.report_counts() + &self.tally.to_string()
     }
 
     fn compare_fixed(&mut self, rng: &mut Rng) {
@@ -82,6 +78,15 @@ impl Comparison for Checker {
 }
 
 impl Checker {
+    /// How many chunks were read, and refused with each number.
+    pub fn report_counts(&self) -> String {
+        let mut lines = format!("read {}\n", self.counts[0]);
+        for number in 1..16 {
+            lines += &format!("refused {number} {}\n", self.counts[number]);
+        }
+        lines
+    }
+
     /// Reads the chunk into tables of this kind and counts the answer, and a difference if there is one.
     pub fn compare(&mut self, name: &str, chunk: &[u8], lending: Lending, rng: &mut Rng) {
         let full = model::read(chunk, &Rooms::FULL);

@@ -19,6 +19,13 @@ impl Tally {
         self.different += 1;
         self.first.get_or_insert_with(what);
     }
+
+    /// Counts what another comparison counted.
+    pub fn add(&mut self, other: &Tally) {
+        self.compared += other.compared;
+        self.different += other.different;
+        self.first = self.first.take().or_else(|| other.first.clone());
+    }
 }
 
 impl Display for Tally {

@@ -2,7 +2,7 @@
 //! written from document 01 (`model`), and the port itself where its library is linked (`port`).
 //! `words` and `model` give the same words, so that all three can be compared word for word.
 //! `spelling` has the same three for spelling types and listing bindings; `writing` holds the canonical form
-//! to rdef.rs.
+//! to rdef.rs, and `report` the lines that the port's program prints of a chunk.
 
 // What rdef.rs expects of the crate around it.
 extern crate alloc;
@@ -23,6 +23,7 @@ pub mod generate;
 pub mod guarded;
 pub mod model;
 pub mod port;
+pub mod report;
 pub mod spelling;
 pub mod tables;
 pub mod utf8;
