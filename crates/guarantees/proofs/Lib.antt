@@ -1,0 +1,5 @@
+pub mod Written
+pub mod Called
+pub mod Found
+pub mod Noninterference
+pub mod RoundTrip
