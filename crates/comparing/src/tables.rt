@@ -53,7 +53,8 @@ fn same_variables<'a>(
     other_root: usize,
 ) -> ComparedVariables
     requires { ⌜ (root ≡ rootAt (now types) first) × («other_root» ≡ rootAt (now «other_types») first) ⌝ }
-    requires { ⌜ (first + count ≤ variableRoom) × ((rootAt (now types) (first + count) ≤ typeRoom) × (rootAt (now «other_types») (first + count) ≤ typeRoom)) ⌝ }
+    requires { ⌜ (first + count ≤ variableRoom)
+        × ((rootAt (now types) (first + count) ≤ typeRoom) × (rootAt (now «other_types») (first + count) ≤ typeRoom)) ⌝ }
     ensures { λ r. ⌜ VariablesCompared (sameName (now (chunk .entry)) (now (edits .entry))) (now (variables .entry)) (now (types .entry)) (now («other_variables» .entry)) (now («other_types» .entry)) first count r ⌝ }
 {
     let mut i = 0;
@@ -93,7 +94,8 @@ fn same_buffers<'a>(
     count: usize,
 ) -> bool
     requires { ⌜ (firstVariable (now buffers) count ≤ variableRoom) × (firstVariable (now «other_buffers») count ≤ variableRoom) ⌝ }
-    requires { ⌜ (rootAt (now types) (firstVariable (now buffers) count) ≤ typeRoom) × (rootAt (now «other_types») (firstVariable (now «other_buffers») count) ≤ typeRoom) ⌝ }
+    requires { ⌜ (rootAt (now types) (firstVariable (now buffers) count) ≤ typeRoom)
+        × (rootAt (now «other_types») (firstVariable (now «other_buffers») count) ≤ typeRoom) ⌝ }
     ensures { λ r. ⌜ r ≡ sameList (sameBuffer (sameName (now (chunk .entry)) (now (edits .entry))) (sameName (now (chunk .entry)) (now (edits .entry))))
         (recordsFrom (bufferHeld (now (buffers .entry)) (now (variables .entry)) (now (types .entry))) 0 count)
         (recordsFrom (bufferHeld (now («other_buffers» .entry)) (now («other_variables» .entry)) (now («other_types» .entry))) 0 count) ⌝ }

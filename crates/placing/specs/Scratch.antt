@@ -82,7 +82,8 @@ defaultPool s = region defaultsStart rootTypesStart s
 -- n type entries from entry `base` on, the newest first; `start` is where the entries' region begins, and `tree` gives the type at a node.
 unfoldable pub typesFrom : (ℕ → TypeDesc Text) → ℕ → List ℕ → ℕ → ℕ → List (TypeDesc Text × ℕ)
 typesFrom tree start s base zero = []
-typesFrom tree start s base (suc n) = (tree (getD s (start + (base + n) * sharedWidth) 0), getD s (start + (base + n) * sharedWidth + 1) 0) ∷ typesFrom tree start s base n
+typesFrom tree start s base (suc n) =
+    (tree (getD s (start + (base + n) * sharedWidth) 0), getD s (start + (base + n) * sharedWidth + 1) 0) ∷ typesFrom tree start s base n
 
 -- The pools in the scratch: of types, those among which one is looked up are handed in, and the members' are n entries from `base` on.
 unfoldable pub poolsIn : List ℕ → List (TypeDesc Text × ℕ) → (ℕ → TypeDesc Text) → ℕ → ℕ → Pools Text Text

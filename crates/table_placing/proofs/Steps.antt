@@ -79,7 +79,8 @@ module _ (chunk edits : List ℕ) (sm5 : Bool) where
   unfolding placeBuffers placeBufferParts
   ran-buffers b bs {start = start} {ps = ps} padded named placed written =
       ran-bind chunk edits _ (ran-pad chunk edits padded)
-      (ran-bind chunk edits _ (ran-ahead chunk edits (length (b ∷ bs) * (bufferStride / 4)) (rows bufferWords (b ∷ bs)) sized (ran-bind chunk edits _ named (ran-bind chunk edits _ placed (ran-return chunk edits _ _ _ _))) written)
+      (ran-bind chunk edits _ (ran-ahead chunk edits (length (b ∷ bs) * (bufferStride / 4)) (rows bufferWords (b ∷ bs)) sized
+      (ran-bind chunk edits _ named (ran-bind chunk edits _ placed (ran-return chunk edits _ _ _ _))) written)
       (ran-return chunk edits _ _ _ _))
     where
       sized : length (rows bufferWords (b ∷ bs) (placeBufferParts (textOracle chunk edits) sm5 (b ∷ bs) (start + 4 * (length (b ∷ bs) * (bufferStride / 4))) ps .result)) ≡ length (b ∷ bs) * (bufferStride / 4)
