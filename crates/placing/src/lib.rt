@@ -29,7 +29,6 @@ pub use scratch::MEMBER_TYPES_START;
 pub use scratch::MEMBER_WORDS;
 pub use scratch::RECORDS_START;
 pub use scratch::ROOT_TYPES_START;
-pub use scratch::SCRATCH_WORDS;
 pub use scratch::SHARED_WORDS;
 pub use scratch::VARIABLE_OFFSETS;
 pub use scratch::VARIABLES_START;

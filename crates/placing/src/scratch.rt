@@ -1,5 +1,4 @@
 // The writer's scratch, region by region: each begins where the one before it ends (specs/Scratch.antt says what stands in them, docs/ROOM.md has the numbers).
-use reflection::BINDING_ROOM;
 use reflection::BUFFER_ROOM;
 use reflection::TYPE_ROOM;
 use reflection::VARIABLE_ROOM;
@@ -20,7 +19,7 @@ pub const VARIABLE_OFFSETS: usize = 3;
 
 pub const BUFFER_OFFSETS: usize = 2;
 
-// Where each region begins.
+// Where each region begins. The last has a word for each binding, and `writing::SCRATCH_WORDS` is where it ends (specs/Scratch.antt, `scratch-filled`).
 pub const INNER_START: usize = OUTER_SIZE;
 
 pub const DEFAULTS_START: usize = INNER_START + INNER_SIZE;
@@ -36,6 +35,3 @@ pub const VARIABLES_START: usize = RECORDS_START + TYPE_ROOM * MEMBER_WORDS;
 pub const BUFFERS_START: usize = VARIABLES_START + VARIABLE_ROOM * VARIABLE_OFFSETS;
 
 pub const BINDINGS_START: usize = BUFFERS_START + BUFFER_ROOM * BUFFER_OFFSETS;
-
-// How many words the scratch has. The last region has a word for each binding.
-pub const SCRATCH_WORDS: usize = BINDINGS_START + BINDING_ROOM;
