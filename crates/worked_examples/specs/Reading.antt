@@ -40,7 +40,7 @@ readingExamples =
     ∷ refuses (caseV 109) 12
     ∷ refuses (withType (nested 92 65)) 13
     ∷ refuses (withType (structOf 92 92)) 14
-    -- 15: 65 buffers; in less room no binding, no type
+    -- 15: 65 buffers, since 1,025 bindings are too many to compute; in less room, no binding and no type
     ∷ refuses (header 65 28 0 0 major4 0 ++ replicate (65 * 24) 0) 15
     ∷ reads (room 0 bufferRoom variableRoom typeRoom) (oneBinding 0 0 0 0) (refusal 15)
     ∷ reads (room bindingRoom bufferRoom variableRoom 0) (caseV 0) (refusal 15)
