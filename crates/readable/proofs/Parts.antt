@@ -6,6 +6,7 @@ use mathlib.Core.List.{List, [], _∷_, _++_, map}
 use mathlib.Core.Option.{Option, some}
 use lib.Dec.{eqb, leb, eqb·suc-zero}
 use lib.ListN.{length, drop, length-map, length-drop}
+use Rattle.reflection.specs.Limits.{bindingRoom, bufferRoom, variableRoom, typeRoom}
 use Rattle.reflection.specs.declared.Text.{Text}
 use Rattle.reflection.specs.declared.CBufferDef.{CBufferDef as BufferRecord}
 use Rattle.reflection.specs.declared.CBufferVariable.{CBufferVariable as VariableRecord}
@@ -173,7 +174,7 @@ module _ (chunk edits : Bytes) where
       let variables : allVariables (map (mapBuffer bytes bytes) (r .constant-buffers)) ≡ map (mapVariable bytes bytes) (allVariables (r .constant-buffers)) = variables-map bytes bytes (r .constant-buffers) in
       let counted : length (allVariables (map (mapBuffer bytes bytes) (r .constant-buffers))) ≡ length (allVariables (r .constant-buffers)) = ap length variables ∙ length-map (allVariables (r .constant-buffers)) (mapVariable bytes bytes) in
       let nodes : nodeCount (allVariables (map (mapBuffer bytes bytes) (r .constant-buffers))) ≡ nodeCount (allVariables (r .constant-buffers)) = ap nodeCount variables ∙ map-node-count bytes bytes (allVariables (r .constant-buffers)) in
-      (λ i. leb (length-map (r .bindings) (mapBinding bytes) i) 1024 && (leb (length-map (r .constant-buffers) (mapBuffer bytes bytes) i) 64 && (leb (counted i) 2048 && leb (nodes i) 4096)))
+      (λ i. leb (length-map (r .bindings) (mapBinding bytes) i) bindingRoom && (leb (length-map (r .constant-buffers) (mapBuffer bytes bytes) i) bufferRoom && (leb (counted i) variableRoom && leb (nodes i) typeRoom)))
 
   pub tests-by-part : (r : ResourceDef Text Text) → tests r ≡ testsByPart r
   unfolding textsInPlace readableContents contents mapDef outerNames innerNames defaultsOf every

@@ -10,6 +10,9 @@ use lib.Dec.{eqb}
 use lib.ListN.{length, getD, length-append}
 use Rattle.words.specs.Words.{wordAt}
 use Rattle.text.proofs.Bools.{and-true}
+use Rattle.reflection.specs.Limits.{chunkLimit}
+use Rattle.reflection.specs.Strides.{rd11HeaderSize, bindingStride, bufferStride, variableStride, typeStride, memberStride, rd11Identifier, sm51Identifier}
+use Rattle.reflection.specs.Rd11.{rd11Allowed}
 use Rattle.reflection.specs.declared.Text.{Text}
 use Rattle.reflection.specs.Reflection.{CBufferVariable, CBufferDef, ResourceBinding, ResourceDef, Rd11, rd11, majorOf, isSm5, isWide}
 use Rattle.reflection.specs.Nodes.{nodesOf, typeLevels}
@@ -17,7 +20,7 @@ use Rattle.reflection.specs.Texts.{inChunk}
 use Rattle.reflection.specs.Tables.{allVariables}
 use Rattle.reflection.specs.Contents.{Bytes}
 use Rattle.reading.specs.Step.{Room, return}
-use Rattle.reading.specs.Read.{bindingStride, variableStride, wordIf, readMany, readVariable, variableFrom, readBuffer, bufferFrom, readBinding, bindingFrom, rd11Allowed, readRd11, readTables, readChunk}
+use Rattle.reading.specs.Read.{wordIf, readMany, readVariable, variableFrom, readBuffer, bufferFrom, readBinding, bindingFrom, readRd11, readTables, readChunk}
 use Rattle.readable.specs.Readable.{every, zeroUnless, versionReadable, bindingReadable, nodeCount}
 use Rattle.readable.specs.Checks.{nameHeld}
 use Rattle.readable.proofs.Bools.{every-append}
@@ -69,11 +72,11 @@ module _ (chunk edits : Bytes) where
   binding-read wide at r =
       let P : ResourceBinding Text → Room → Type 0 = λ b r′. BindingRead wide b r r′ in
       binding-leaves P _ r (λ r′ taken.
-      check-leaves P _ 7 _ r′ (λ fits.
-      check-leaves P _ 8 _ r′ (λ input-type.
-      check-leaves P _ 9 _ r′ (λ dimension.
-      check-leaves P _ 10 _ r′ (λ flags.
-      text-leaves P 11 _ _ r′ (λ place k named.
+      check-leaves P _ _ _ r′ (λ fits.
+      check-leaves P _ _ _ r′ (λ input-type.
+      check-leaves P _ _ _ r′ (λ dimension.
+      check-leaves P _ _ _ r′ (λ flags.
+      text-leaves P _ _ _ r′ (λ place k named.
       record { held = (λ i. string-held chunk edits _ place k named i && (input-type i && (dimension i && (flags i && space-held wide (at + 32) (at + 36) i)))); spent = taken }))))))
 
   pub bindings-read : (wide : Bool) (n at : ℕ) (r : Room) → Leaves (λ bs r′. BindingsRead wide bs r r′) (readMany (readBinding chunk wide) (bindingStride wide) n at r)
@@ -98,9 +101,9 @@ module _ (chunk edits : Bytes) where
     variable-read at r =
         let P : CBufferVariable Text Text → Room → Type 0 = λ v r′. VariableRead v r r′ in
         variable-leaves P _ r (λ r′ taken.
-        check-leaves P _ 7 _ r′ (λ fits.
-        text-leaves P 12 _ _ r′ (λ place k default.
-        text-leaves P 11 _ _ r′ (λ name-place n named.
+        check-leaves P _ _ _ r′ (λ fits.
+        text-leaves P _ _ _ r′ (λ place k default.
+        text-leaves P _ _ _ r′ (λ name-place n named.
         then-leaves (TypeRead chunk edits sm5 typeLevels r′) P _ _ r′ (type-read chunk edits sm5 bytes typeLevels [] (wordAt chunk (at + 16)) r′) (λ t r″ typed.
         record {
           held =
@@ -136,16 +139,16 @@ module _ (chunk edits : Bytes) where
     buffer-read at r =
         let P : CBufferDef Text Text → Room → Type 0 = λ b r′. BufferRead b r r′ in
         buffer-leaves P _ r (λ r′ taken.
-        check-leaves P _ 7 _ r′ (λ fits.
+        check-leaves P _ _ _ r′ (λ fits.
         then-leaves (λ vs r″. VariablesRead vs r′ r″) P _ _ r′ (variables-read (wordAt chunk (at + 4)) (wordAt chunk (at + 8)) r′) (λ vs r″ variables.
-        text-leaves P 11 _ _ r″ (λ place k named.
+        text-leaves P _ _ _ r″ (λ place k named.
         record {
           named = string-held chunk edits _ place k named;
           held = variables .held;
           spent = spent-as (spent-then 0 1 0 0 0 0 (length vs) (nodeCount vs) taken (variables .spent)) refl refl (omega arith) (omega arith);
         }))))
 
-    pub buffers-read : (n at : ℕ) (r : Room) → Leaves (λ bs r′. BuffersRead bs r r′) (readMany (readBuffer chunk sm5) 24 n at r)
+    pub buffers-read : (n at : ℕ) (r : Room) → Leaves (λ bs r′. BuffersRead bs r r′) (readMany (readBuffer chunk sm5) bufferStride n at r)
     unfolding every allVariables nodeCount
     buffers-read n at r =
         many-leaves BufferRead BuffersRead (λ r. record { named = refl; held = refl; spent = none-spent r })
@@ -156,7 +159,7 @@ module _ (chunk edits : Bytes) where
               spent-as (spent-then 0 1 _ _ 0 (length bs) _ _ (one .spent) (others .spent)) refl (omega arith)
               (sym (length-append (b .variables) (allVariables bs))) (sym (count-append (b .variables) (allVariables bs)));
         })
-        (readBuffer chunk sm5) buffer-read 24 n at r
+        (readBuffer chunk sm5) buffer-read bufferStride n at r
 
 -- The RD11 words: none for major 4, allowed ones for major 5.
 module _ (chunk : Bytes) where
@@ -166,17 +169,19 @@ module _ (chunk : Bytes) where
   abbrev VersionRead : Rd11 → Room → Type 0
   VersionRead words r = versionReadable (wordAt chunk 16) words ≡ true
 
-  words-allowed : rd11Allowed chunk ≡ true
-      → ((eqb (wordAt chunk 28) 0x31314452 || eqb (wordAt chunk 28) 0x25441313) ≡ true) × ((eqb (wordAt chunk 40) 32 || eqb (wordAt chunk 40) 40) ≡ true)
+  -- Allowed words are allowed with the paper's sizes in place of those that a reflection does not hold.
+  words-allowed : (identifier header buffer binding variable type member : ℕ) → rd11Allowed identifier header buffer binding variable type member ≡ true
+      → rd11Allowed identifier rd11HeaderSize bufferStride binding (variableStride true) (typeStride true) memberStride ≡ true
   unfolding rd11Allowed
-  words-allowed e =
-      let identifier = eqb (wordAt chunk 28) 0x31314452 || eqb (wordAt chunk 28) 0x25441313 in
-      let stride = eqb (wordAt chunk 40) 32 || eqb (wordAt chunk 40) 40 in
-      let last = eqb (wordAt chunk 44) 40 && (eqb (wordAt chunk 48) 36 && eqb (wordAt chunk 52) 12) in
-      let (first, e₁) = and-true identifier (eqb (wordAt chunk 32) 60 && (eqb (wordAt chunk 36) 24 && (stride && last))) e in
-      let (header, e₂) = and-true (eqb (wordAt chunk 32) 60) (eqb (wordAt chunk 36) 24 && (stride && last)) e₁ in
-      let (buffer, e₃) = and-true (eqb (wordAt chunk 36) 24) (stride && last) e₂ in
-      (first, and-true stride last e₃ .0)
+  words-allowed identifier header buffer binding variable type member e =
+      let known = eqb identifier rd11Identifier || eqb identifier sm51Identifier in
+      let bound = eqb binding (bindingStride false) || eqb binding (bindingStride true) in
+      let last = eqb variable (variableStride true) && (eqb type (typeStride true) && eqb member memberStride) in
+      let (is-known, e₁) = and-true known (eqb header rd11HeaderSize && (eqb buffer bufferStride && (bound && last))) e in
+      let (_, e₂) = and-true (eqb header rd11HeaderSize) (eqb buffer bufferStride && (bound && last)) e₁ in
+      let (_, e₃) = and-true (eqb buffer bufferStride) (bound && last) e₂ in
+      let (is-bound, _) = and-true bound last e₃ in
+      λ i. is-known i && (is-bound i && true)
 
   version-read : (eqb major 4 || eqb major 5) ≡ true → (r : Room) → Leaves (λ words r′. VersionRead words r′ × (r ≡ r′)) (readRd11 chunk (eqb major 5) r)
   unfolding readRd11 return versionReadable
@@ -184,14 +189,15 @@ module _ (chunk : Bytes) where
     where
       go : (five : Bool) → eqb major 5 ≡ five → Leaves (λ words r′. VersionRead words r′ × (r ≡ r′)) (readRd11 chunk five r)
       go true is-five =
-          check-leaves (λ words r′. VersionRead words r′ × (r ≡ r′)) _ 5 _ r (λ long.
-          check-leaves (λ words r′. VersionRead words r′ × (r ≡ r′)) _ 6 _ r (λ allowed.
-          let (identifier, stride) = words-allowed allowed in ((λ i. is-five i && (identifier i && stride i)), refl)))
+          check-leaves (λ words r′. VersionRead words r′ × (r ≡ r′)) _ _ _ r (λ long.
+          check-leaves (λ words r′. VersionRead words r′ × (r ≡ r′)) _ _ _ r (λ allowed.
+          let held = words-allowed (wordAt chunk 28) (wordAt chunk 32) (wordAt chunk 36) (wordAt chunk 40) (wordAt chunk 44) (wordAt chunk 48) (wordAt chunk 52) allowed in
+          ((λ i. is-five i && held i), refl)))
       go false is-five = (sym (ap (λ b. eqb major 4 || b) is-five ∙ or-false (eqb major 4)) ∙ known, refl)
 
 -- A reflection that was read: held, and its records taken from the room.
 pub record DefRead (chunk edits : Bytes) (d : ResourceDef Text Text) (r r′ : Room) : Type 0 where
-  pub short : length chunk ≤ 65536
+  pub short : length chunk ≤ chunkLimit
   pub version : versionReadable (d .target-version) (d .rd11) ≡ true
   pub creator : nameHeld chunk edits (d .creator) ≡ true
   pub bindings : every (bindingTests chunk edits (isWide (d .rd11))) (d .bindings) ≡ true
@@ -200,7 +206,7 @@ pub record DefRead (chunk edits : Bytes) (d : ResourceDef Text Text) (r r′ : R
   pub spent : Spent (length (d .bindings)) (length (d .constant-buffers)) (length (allVariables (d .constant-buffers))) (nodeCount (allVariables (d .constant-buffers))) r r′
 
 module _ (chunk edits : Bytes) (bytes : (i : ℕ) → getD chunk i 0 < 256) where
-  tables-read : length chunk ≤ 65536 → (creator : Text) → nameHeld chunk edits creator ≡ true → (words : Rd11) → versionReadable (wordAt chunk 16) words ≡ true
+  tables-read : length chunk ≤ chunkLimit → (creator : Text) → nameHeld chunk edits creator ≡ true → (words : Rd11) → versionReadable (wordAt chunk 16) words ≡ true
       → (r : Room) → Leaves (λ d r′. DefRead chunk edits d r r′) (readTables chunk creator words r)
   unfolding readTables return
   tables-read short creator named words version r =
@@ -223,10 +229,10 @@ module _ (chunk edits : Bytes) (bytes : (i : ℕ) → getD chunk i 0 < 256) wher
   unfolding readChunk
   chunk-read r =
       let P : ResourceDef Text Text → Room → Type 0 = λ d r′. DefRead chunk edits d r r′ in
-      check-leaves P _ 1 _ r (λ long.
-      check-leaves P _ 2 _ r (λ short.
-      check-leaves P _ 3 _ r (λ known.
-      text-leaves P 4 _ _ r (λ place k named.
+      check-leaves P _ _ _ r (λ long.
+      check-leaves P _ _ _ r (λ short.
+      check-leaves P _ _ _ r (λ known.
+      text-leaves P _ _ _ r (λ place k named.
       then-leaves (λ words r′. VersionRead chunk words r′ × (r ≡ r′)) P _ _ r (version-read chunk known r) (λ words r′ version.
       subst (λ left. Leaves P (readTables chunk (inChunk place k) words left)) (version .1)
-      (tables-read (leb-true (length chunk) 65536 short) (inChunk place k) (string-held chunk edits _ place k named) words (version .0) r))))))
+      (tables-read (leb-true (length chunk) chunkLimit short) (inChunk place k) (string-held chunk edits _ place k named) words (version .0) r))))))

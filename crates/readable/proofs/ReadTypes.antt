@@ -16,6 +16,7 @@ use Rattle.text.specs.declared.Found.the-variants.{At, Bad}
 use Rattle.text.specs.Utf8.{wellFormed, run}
 use Rattle.text.specs.Strings.{withoutNul, cstringAt}
 use Rattle.text.proofs.Written.{StringAt, cstring-found}
+use Rattle.reflection.specs.Strides.{memberStride}
 use Rattle.reflection.specs.declared.Text.{Text}
 use Rattle.reflection.specs.Reflection.{TypeDesc, Members, memberCount}
 use Rattle.reflection.specs.Nodes.{Node, nodesOf, nodesOfMembers}
@@ -130,10 +131,10 @@ module _ (chunk edits : Bytes) (sm5 : Bool) where
   unfolding readMembers return membersHeld memberCount nodesOfMembers
   members-read levels read h zero at r = record { held = refl; count = refl; spent = none-spent r }
   members-read levels read h (suc n) at r =
-      check-leaves (MembersRead levels (suc n) r) _ 7 _ r (λ inside.
-      text-leaves (MembersRead levels (suc n) r) 11 _ _ r (λ place k named.
+      check-leaves (MembersRead levels (suc n) r) _ _ _ r (λ inside.
+      text-leaves (MembersRead levels (suc n) r) _ _ _ r (λ place k named.
       then-leaves (TypeRead levels r) (MembersRead levels (suc n) r) _ _ r (h _ r) (λ t r′ typed.
-      then-leaves (MembersRead levels n r′) (MembersRead levels (suc n) r) _ _ r′ (members-read levels read h n (at + 12) r′) (λ ms r″ others.
+      then-leaves (MembersRead levels n r′) (MembersRead levels (suc n) r) _ _ r′ (members-read levels read h n (at + memberStride) r′) (λ ms r″ others.
       record {
         held = (λ i. (typed .held i && string-held chunk edits _ place k named i) && others .held i);
         count = ap suc (others .count);
@@ -153,12 +154,12 @@ module _ (chunk edits : Bytes) (sm5 : Bool) where
   unfolding readType return refuse typeHeld nodesOf
   type-read bytes zero path at r = tt
   type-read bytes (suc levels) path at r =
-      check-leaves (TypeRead (suc levels) r) _ 14 _ r (λ fresh.
+      check-leaves (TypeRead (suc levels) r) _ _ _ r (λ fresh.
       type-leaves (TypeRead (suc levels) r) _ r (λ r′ taken.
-      check-leaves (TypeRead (suc levels) r) _ 7 _ r′ (λ fits.
+      check-leaves (TypeRead (suc levels) r) _ _ _ r′ (λ fits.
       then-leaves (MembersRead levels (highAt chunk (at + 8)) r′) (TypeRead (suc levels) r) _ _ r′
       (members-read levels _ (λ below. type-read bytes levels (at ∷ path) below) (highAt chunk (at + 8)) (wordAt chunk (at + 12)) r′) (λ ms r″ members.
-      text-leaves (TypeRead (suc levels) r) 11 _ _ r″ (λ place k named.
+      text-leaves (TypeRead (suc levels) r) _ _ _ r″ (λ place k named.
       let name = type-name-held chunk edits sm5 at place k named in
       let few : memberCount ms ≤ 65535 = omega (arith, members .count, high-fits chunk bytes (at + 8)) in
       record {

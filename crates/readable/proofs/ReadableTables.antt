@@ -10,6 +10,7 @@ use borrow.Author.Tests.{leb-true}
 use lib.Dec.{leb}
 use lib.ListN.{length, length-map}
 use Rattle.text.proofs.Bools.{and-true}
+use Rattle.reflection.specs.Limits.{bindingRoom, bufferRoom, variableRoom, typeRoom, chunkLimit}
 use Rattle.reflection.specs.declared.Text.{Text}
 use Rattle.reflection.specs.declared.ResourceDef.{ResourceDef as Header}
 use Rattle.reflection.specs.Texts.{textBytes}
@@ -33,12 +34,12 @@ pub record Readable (chunk edits : Bytes) (h : Header) (bindings buffers variabl
   pub decoded : decode h bindings buffers variables types ≡ some def
   pub is-held : held chunk edits h bindings buffers variables types ≡ some (contents chunk edits def)
   pub is-readable : readableContents (contents chunk edits def) ≡ true
-  pub chunk-long : length chunk ≤ 65536
-  pub edits-long : length edits ≤ 65536
-  pub binding-count : h .«binding_count» ≤ 1024
-  pub buffer-count : h .«buffer_count» ≤ 64
-  pub variable-count : h .«variable_count» ≤ 2048
-  pub type-count : h .«type_count» ≤ 4096
+  pub chunk-long : length chunk ≤ chunkLimit
+  pub edits-long : length edits ≤ chunkLimit
+  pub binding-count : h .«binding_count» ≤ bindingRoom
+  pub buffer-count : h .«buffer_count» ≤ bufferRoom
+  pub variable-count : h .«variable_count» ≤ variableRoom
+  pub type-count : h .«type_count» ≤ typeRoom
   pub bindings-inside : h .«binding_count» ≤ length bindings / bindingWidth
   pub buffers-inside : h .«buffer_count» ≤ length buffers / bufferWidth
   pub variables-inside : h .«variable_count» ≤ length variables / variableWidth
@@ -91,10 +92,10 @@ decode-counts h bindings buffers variables types r e =
 
 -- Room that the contents keep is kept by what they are of.
 record Kept (r : ResourceDef Text Text) : Type 0 where
-  bindings : length (r .bindings) ≤ 1024
-  buffers : length (r .constant-buffers) ≤ 64
-  variables : length (allVariables (r .constant-buffers)) ≤ 2048
-  types : nodeCount (allVariables (r .constant-buffers)) ≤ 4096
+  bindings : length (r .bindings) ≤ bindingRoom
+  buffers : length (r .constant-buffers) ≤ bufferRoom
+  variables : length (allVariables (r .constant-buffers)) ≤ variableRoom
+  types : nodeCount (allVariables (r .constant-buffers)) ≤ typeRoom
 
 readable-room : (c : ResourceDef Bytes Bytes) → readableContents c ≡ true → roomKept c ≡ true
 unfolding readableContents
@@ -119,14 +120,14 @@ contents-room chunk edits r e =
     let nf = length (map (mapBuffer f f) (r .constant-buffers)) in
     let nv = length (allVariables (map (mapBuffer f f) (r .constant-buffers))) in
     let nt = nodeCount (allVariables (map (mapBuffer f f) (r .constant-buffers))) in
-    let (b, e₁) = and-true (leb nb 1024) (leb nf 64 && (leb nv 2048 && leb nt 4096)) e in
-    let (c, e₂) = and-true (leb nf 64) (leb nv 2048 && leb nt 4096) e₁ in
-    let (v, t) = and-true (leb nv 2048) (leb nt 4096) e₂ in
+    let (b, e₁) = and-true (leb nb bindingRoom) (leb nf bufferRoom && (leb nv variableRoom && leb nt typeRoom)) e in
+    let (c, e₂) = and-true (leb nf bufferRoom) (leb nv variableRoom && leb nt typeRoom) e₁ in
+    let (v, t) = and-true (leb nv variableRoom) (leb nt typeRoom) e₂ in
     record {
-      bindings = omega (arith, leb-true nb 1024 b, length-map (r .bindings) (mapBinding f));
-      buffers = omega (arith, leb-true nf 64 c, length-map (r .constant-buffers) (mapBuffer f f));
-      variables = omega (arith, leb-true nv 2048 v, ap length all, length-map vs (mapVariable f f));
-      types = omega (arith, leb-true nt 4096 t, ap nodeCount all, map-node-count f f vs);
+      bindings = omega (arith, leb-true nb bindingRoom b, length-map (r .bindings) (mapBinding f));
+      buffers = omega (arith, leb-true nf bufferRoom c, length-map (r .constant-buffers) (mapBuffer f f));
+      variables = omega (arith, leb-true nv variableRoom v, ap length all, length-map vs (mapVariable f f));
+      types = omega (arith, leb-true nt typeRoom t, ap nodeCount all, map-node-count f f vs);
     }
 
 module _ (chunk edits : Bytes) (h : Header) (bindings buffers variables types : List ℕ) where
@@ -138,7 +139,7 @@ module _ (chunk edits : Bytes) (h : Header) (bindings buffers variables types : 
       → Readable chunk edits h bindings buffers variables types
   unfolding held
   held-holds c e passes =
-      let (long, e₁) = check-was (leb (length chunk) 65536 && leb (length edits) 65536) _ c e in
+      let (long, e₁) = check-was (leb (length chunk) chunkLimit && leb (length edits) chunkLimit) _ c e in
       let (absent, e₂) = check-was (rd11Absent h) _ c e₁ in
       let (r, decoded, e₃) = then-was (decode h bindings buffers variables types) _ c e₂ in
       let (placed, e₄) = check-was (textsInPlace chunk edits r) _ c e₃ in
@@ -146,14 +147,14 @@ module _ (chunk edits : Bytes) (h : Header) (bindings buffers variables types : 
       let readable-def = ap readableContents is ∙ passes in
       let kept = contents-room chunk edits r (readable-room (contents chunk edits r) readable-def) in
       let counted = decode-counts h bindings buffers variables types r decoded in
-      let (chunk-long, edits-long) = and-true (leb (length chunk) 65536) (leb (length edits) 65536) long in
+      let (chunk-long, edits-long) = and-true (leb (length chunk) chunkLimit) (leb (length edits) chunkLimit) long in
       record {
         def = r;
         decoded = decoded;
         is-held = e ∙ ap some (sym is);
         is-readable = readable-def;
-        chunk-long = leb-true (length chunk) 65536 chunk-long;
-        edits-long = leb-true (length edits) 65536 edits-long;
+        chunk-long = leb-true (length chunk) chunkLimit chunk-long;
+        edits-long = leb-true (length edits) chunkLimit edits-long;
         binding-count = omega (arith, kept .bindings, counted .binding-count);
         buffer-count = omega (arith, kept .buffers, counted .buffer-count);
         variable-count = omega (arith, kept .variables, counted .variable-count);

@@ -1,7 +1,7 @@
 -- EVERYTHING THAT IS READ IS READABLE, in the tables that reading leaves too: what reading tests, and the room that it keeps to, is what readable asks for; and
 -- decoding the tables gives what was read.
 use mathlib.Core.Path.{_≡_, refl, sym, ap, _∙_}
-use mathlib.Core.Bool.{Bool, true, false, _&&_, _||_, not}
+use mathlib.Core.Bool.{Bool, true, _&&_}
 use mathlib.Core.List.{List, [], _∷_}
 use mathlib.Core.Option.{some}
 use Prim.Native.Nat.{ℕ, zero, suc, _≤_, _<_}
@@ -10,12 +10,13 @@ use borrow.Author.Tests.{eqb-true, ne-eqb, le-leb}
 use lib.Dec.{eqb, leb}
 use lib.ListN.{length, getD}
 use Rattle.text.proofs.Bools.{and-true}
+use Rattle.reflection.specs.Limits.{bindingRoom, bufferRoom, variableRoom, typeRoom, chunkLimit}
 use Rattle.reflection.specs.declared.Text.{Text}
 use Rattle.reflection.specs.Outcome.{ok}
 use Rattle.reflection.specs.Reflection.{TypeDesc, typeDesc, Members, noMember, member, CBufferVariable, ResourceDef, Rd11, noRd11, rd11, memberCount, majorOf, isSm5, identifierOf, strideOf, slotsOf}
 use Rattle.reflection.specs.Nodes.{typeLevels, Fits, FitsAll}
 use Rattle.reflection.specs.Tables.{padded, allVariables, bindingRows, bufferRows, variableRows, typeRows, headerOf}
-use Rattle.reflection.specs.Decode.{check, TypesFit}
+use Rattle.reflection.specs.Decode.{check, rd11From, TypesFit}
 use Rattle.reflection.proofs.Nodes.{then-some}
 use Rattle.reflection.proofs.Decode.{rd11Of, rd11-of-header, decode-encoded}
 use Rattle.reflection.specs.Contents.{Bytes, contents}
@@ -30,10 +31,10 @@ use Rattle.readable.proofs.ReadTables.{DefRead, chunk-read}
 
 -- Room for at most what document 01 allows.
 pub record AtMostFull (r : Room) : Type 0 where
-  pub bindings : r .bindings ≤ 1024
-  pub buffers : r .buffers ≤ 64
-  pub variables : r .variables ≤ 2048
-  pub types : r .types ≤ 4096
+  pub bindings : r .bindings ≤ bindingRoom
+  pub buffers : r .buffers ≤ bufferRoom
+  pub variables : r .variables ≤ variableRoom
+  pub types : r .types ≤ typeRoom
 
 -- The room of lent tables is.
 pub tables-at-most-full : (b f v t : ℕ) → AtMostFull (roomOf b f v t)
@@ -67,30 +68,36 @@ module _ (chunk edits : Bytes) (sm5 : Bool) where
       && (defaultHeld chunk edits (v .size) (v .default-value) && zeroUnless sm5 (v .texture-start ∷ v .texture-size ∷ v .sampler-start ∷ v .sampler-size ∷ [])) in
       (held-fits (v .var-type) typeLevels (and-true own (typeHeld chunk edits sm5 (v .var-type) typeLevels) first .1), types-fit vs others)
 
+-- A header has the RD11 words of its reflection, where the version is readable.
+words-of-version : (version : ℕ) (words : Rd11) → versionReadable version words ≡ true → words ≡ rd11Of (eqb (majorOf version) 5) words
+unfolding versionReadable
+words-of-version version noRd11 e =
+    let four : majorOf version ≡ 4 = eqb-true (majorOf version) 4 e in
+    sym (ap (λ b. rd11Of b noRd11) (ne-eqb (majorOf version) 5 (λ five. omega arith)))
+words-of-version version (rd11 identifier stride slots) e = sym (ap (λ b. rd11Of b (rd11 identifier stride slots)) (and-true (eqb (majorOf version) 5) _ e .0))
+
+header-words : (d : ResourceDef Text Text) → versionReadable (d .target-version) (d .rd11) ≡ true → d .rd11 ≡ rd11From (headerOf d)
+header-words d e = words-of-version (d .target-version) (d .rd11) e ∙ sym (rd11-of-header d (eqb (majorOf (d .target-version)) 5) refl)
+
 abbrev threeWords : Rd11 → List ℕ
 threeWords words = identifierOf words ∷ strideOf words ∷ slotsOf words ∷ []
 
-words-of-version : (version : ℕ) (words : Rd11) → versionReadable version words ≡ true
-    → (zeroUnless (not (eqb (majorOf version) 4)) (threeWords words) ≡ true) × (words ≡ rd11Of (eqb (majorOf version) 4) words)
-unfolding versionReadable zeroUnless every
-words-of-version version noRd11 e = (ap (λ b. zeroUnless (not b) (0 ∷ 0 ∷ 0 ∷ [])) e, sym (ap (λ b. rd11Of b noRd11) e))
-words-of-version version (rd11 identifier stride slots) e =
-    let allowed = (eqb identifier 0x31314452 || eqb identifier 0x25441313) && (eqb stride 32 || eqb stride 40) in
-    let five : majorOf version ≡ 5 = eqb-true (majorOf version) 5 (and-true (eqb (majorOf version) 5) allowed e .0) in
-    let other : eqb (majorOf version) 4 ≡ false = ne-eqb (majorOf version) 4 (λ four. omega arith) in
-    (ap (λ b. zeroUnless (not b) (identifier ∷ stride ∷ slots ∷ [])) other, sym (ap (λ b. rd11Of b (rd11 identifier stride slots)) other))
+zero-without : (words : Rd11) → zeroUnless (isSm5 words) (threeWords words) ≡ true
+unfolding zeroUnless every
+zero-without noRd11 = refl
+zero-without (rd11 identifier stride slots) = refl
 
 absent-of-header : (d : ResourceDef Text Text) → versionReadable (d .target-version) (d .rd11) ≡ true → rd11Absent (headerOf d) ≡ true
 unfolding rd11Absent headerOf
-absent-of-header d e = words-of-version (d .target-version) (d .rd11) e .0
+absent-of-header d e = ap (λ words. zeroUnless (isSm5 words) (threeWords (d .rd11))) (sym (header-words d e)) ∙ zero-without (d .rd11)
 
 room-kept : (chunk edits : Bytes) (d : ResourceDef Text Text) (r r′ : Room) → AtMostFull r → DefRead chunk edits d r r′ → roomKept d ≡ true
 unfolding roomKept
 room-kept chunk edits d r r′ full is =
     let vs = allVariables (d .constant-buffers) in
-    (λ i. le-leb (length (d .bindings)) 1024 (omega (arith, full .bindings, is .spent .bindings)) i
-    && (le-leb (length (d .constant-buffers)) 64 (omega (arith, full .buffers, is .spent .buffers)) i
-    && (le-leb (length vs) 2048 (omega (arith, full .variables, is .spent .variables)) i && le-leb (nodeCount vs) 4096 (omega (arith, full .types, is .spent .types)) i)))
+    (λ i. le-leb (length (d .bindings)) bindingRoom (omega (arith, full .bindings, is .spent .bindings)) i
+    && (le-leb (length (d .constant-buffers)) bufferRoom (omega (arith, full .buffers, is .spent .buffers)) i
+    && (le-leb (length vs) variableRoom (omega (arith, full .variables, is .spent .variables)) i && le-leb (nodeCount vs) typeRoom (omega (arith, full .types, is .spent .types)) i)))
 
 -- A chunk of bytes that reads as d, in room that is at most the full room; the text of edits is any, since all texts lie in the chunk.
 module _
@@ -117,16 +124,15 @@ module _
   pub read-in-place : textsInPlace chunk edits d ≡ true
   read-in-place = and-true (textsInPlace chunk edits d) (readableContents (contents chunk edits d)) read-tests .0
 
-  module _ (edits-short : length edits ≤ 65536) (nb nf nv nt : ℕ) where
+  module _ (edits-short : length edits ≤ chunkLimit) (nb nf nv nt : ℕ) where
     -- The tables that reading leaves hold it.
     pub read-held : held chunk edits (headerOf d) (padded nb (bindingRows d)) (padded nf (bufferRows d)) (padded nv (variableRows d)) (padded nt (typeRows d)) ≡ some (contents chunk edits d)
     unfolding held check
     read-held =
         let is : DefRead chunk edits d room (was-read .0) = was-read .1 in
-        then-some _ (ap check (λ i. le-leb (length chunk) 65536 (is .short) i && le-leb (length edits) 65536 edits-short i))
+        then-some _ (ap check (λ i. le-leb (length chunk) chunkLimit (is .short) i && le-leb (length edits) chunkLimit edits-short i))
         (then-some _ (ap check (absent-of-header d (is .version)))
-        (then-some _ (decode-encoded d nb nf nv nt (types-fit chunk edits (isSm5 (d .rd11)) (allVariables (d .constant-buffers)) (is .variables))
-        (words-of-version (d .target-version) (d .rd11) (is .version) .1 ∙ sym (rd11-of-header d (eqb (majorOf (d .target-version)) 4) refl)))
+        (then-some _ (decode-encoded d nb nf nv nt (types-fit chunk edits (isSm5 (d .rd11)) (allVariables (d .constant-buffers)) (is .variables)) (header-words d (is .version)))
         (then-some _ (ap check read-in-place) refl)))
 
     -- So they are readable.

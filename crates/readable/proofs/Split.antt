@@ -7,6 +7,7 @@ use mathlib.Core.Option.{Option, none, some}
 use Prim.Native.Nat.{ℕ, _/_}
 use lib.Dec.{leb}
 use lib.ListN.{length, length-map}
+use Rattle.reflection.specs.Limits.{bindingRoom, bufferRoom, variableRoom, typeRoom, chunkLimit}
 use Rattle.reflection.specs.declared.Text.{Text}
 use Rattle.reflection.specs.declared.ResourceDef.{ResourceDef as Header}
 use Rattle.reflection.specs.declared.ResourceBinding.{ResourceBinding as BindingRecord}
@@ -68,7 +69,7 @@ module _ (chunk edits : Bytes) (h : Header) where
 
   -- Room for so many records of each table.
   abbrev room : ℕ → ℕ → ℕ → ℕ → Bool
-  room b f v t = leb b 1024 && (leb f 64 && (leb v 2048 && leb t 4096))
+  room b f v t = leb b bindingRoom && (leb f bufferRoom && (leb v variableRoom && leb t typeRoom))
 
   bindings-held : (bs : List BindingRecord) → every (bindingTests chunk edits wide) (map bindingFrom bs) ≡ every (bindingHeld chunk edits wide) bs
   unfolding bindingHeld bindingFrom
@@ -164,12 +165,12 @@ module _ (chunk edits : Bytes) (h : Header) where
     unfolding readable held headerHeld countsHeld countHeld recordsHeld bindingsHeld buffersHeld variablesHeld nodesFrom
     readable-split =
         is-holds (held chunk edits h bindings buffers variables types)
-        ∙ holds-check readableContents (leb (length chunk) 65536 && leb (length edits) 65536) _
-        ∙ ap (λ b. (leb (length chunk) 65536 && leb (length edits) 65536) && b) (holds-check readableContents (rd11Absent h) _
+        ∙ holds-check readableContents (leb (length chunk) chunkLimit && leb (length edits) chunkLimit) _
+        ∙ ap (λ b. (leb (length chunk) chunkLimit && leb (length edits) chunkLimit) && b) (holds-check readableContents (rd11Absent h) _
         ∙ ap (λ b. rd11Absent h && b) (holds-then readableContents (decode h bindings buffers variables types) _
         ∙ holds-same _ (tests chunk edits) (decode h bindings buffers variables types) (λ r e. holds-check readableContents (textsInPlace chunk edits r) _)
         ∙ decode-tested))
-        ∙ in-order (leb (length chunk) 65536 && leb (length edits) 65536) (rd11Absent h) (versionReadable (h .«target_version») (rd11From h)) (nameHeld chunk edits (h .creator))
-        (leb (h .«binding_count») (length bindings / bindingWidth)) (leb (h .«binding_count») 1024) (leb (h .«buffer_count») (length buffers / bufferWidth)) (leb (h .«buffer_count») 64)
-        (leb (h .«variable_count») (length variables / variableWidth)) (leb (h .«variable_count») 2048) (leb (h .«type_count») (length types / typeWidth)) (leb (h .«type_count») 4096)
+        ∙ in-order (leb (length chunk) chunkLimit && leb (length edits) chunkLimit) (rd11Absent h) (versionReadable (h .«target_version») (rd11From h)) (nameHeld chunk edits (h .creator))
+        (leb (h .«binding_count») (length bindings / bindingWidth)) (leb (h .«binding_count») bindingRoom) (leb (h .«buffer_count») (length buffers / bufferWidth)) (leb (h .«buffer_count») bufferRoom)
+        (leb (h .«variable_count») (length variables / variableWidth)) (leb (h .«variable_count») variableRoom) (leb (h .«type_count») (length types / typeWidth)) (leb (h .«type_count») typeRoom)
         (every (bindingHeld chunk edits wide) bs) (buffersTake chunk edits cs (h .«variable_count»)) (variablesTake chunk edits sm5 vs ns)

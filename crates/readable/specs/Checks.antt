@@ -13,6 +13,7 @@ use Rattle.reflection.specs.declared.ResourceBinding.{ResourceBinding as Bindin
 use Rattle.reflection.specs.declared.CBufferDef.{CBufferDef as BufferRecord}
 use Rattle.reflection.specs.declared.CBufferVariable.{CBufferVariable as VariableRecord}
 use Rattle.reflection.specs.Reflection.{isSm5, isWide}
+use Rattle.reflection.specs.Limits.{chunkLimit, bindingRoom, bufferRoom, variableRoom, typeRoom}
 use Rattle.reflection.specs.Nodes.{Node, _>>=_, typeLevels}
 use Rattle.reflection.specs.Records.{bindingWidth, bufferWidth, variableWidth, typeWidth, bindingAt, bufferAt, variableAt, typeAt}
 use Rattle.reflection.specs.Decode.{check, recordsFrom, bindingFrom, nodeFrom, rd11From}
@@ -37,14 +38,14 @@ countHeld width long most n = leb n (long / width) && leb n most
 -- The four counts, against the tables' lengths in words.
 unfoldable pub countsHeld : Header → ℕ → ℕ → ℕ → ℕ → Bool
 countsHeld h bindings buffers variables types =
-    countHeld bindingWidth bindings 1024 (h .«binding_count»)
-    && (countHeld bufferWidth buffers 64 (h .«buffer_count»)
-    && (countHeld variableWidth variables 2048 (h .«variable_count») && countHeld typeWidth types 4096 (h .«type_count»)))
+    countHeld bindingWidth bindings bindingRoom (h .«binding_count»)
+    && (countHeld bufferWidth buffers bufferRoom (h .«buffer_count»)
+    && (countHeld variableWidth variables variableRoom (h .«variable_count») && countHeld typeWidth types typeRoom (h .«type_count»)))
 
 -- The header: both buffers' lengths, the version and the RD11 words, the creator.
 unfoldable pub headerHeld : Bytes → Bytes → Header → Bool
 headerHeld chunk edits h =
-    (leb (length chunk) 65536 && leb (length edits) 65536)
+    (leb (length chunk) chunkLimit && leb (length edits) chunkLimit)
     && (rd11Absent h && (versionReadable (h .«target_version») (rd11From h) && nameHeld chunk edits (h .creator)))
 
 -- A binding.

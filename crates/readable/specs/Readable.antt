@@ -1,6 +1,6 @@
 -- Readable: document 01, "What a reflection holds", "Readable means exactly this", and nothing else. First what the bytes and numbers must be, whatever
 -- tables hold them; then of a reflection in lent tables.
-use mathlib.Core.Bool.{Bool, true, false, _&&_, _||_, not}
+use mathlib.Core.Bool.{Bool, true, false, _&&_, _||_}
 use mathlib.Core.List.{List, [], _∷_}
 use mathlib.Core.Option.{Option, none, some}
 use Prim.Native.Nat.{ℕ, zero, suc, _+_}
@@ -16,7 +16,10 @@ use Rattle.reflection.specs.declared.ResourceDef.{ResourceDef as Header}
 use Rattle.reflection.specs.Reflection.{TypeNumbers, TypeDesc, typeDesc, Members, noMember, member, memberCount, CBufferVariable, CBufferDef, ResourceBinding, ResourceDef, Rd11, noRd11, rd11, majorOf, isSm5, isWide}
 use Rattle.reflection.specs.Nodes.{_>>=_, nodesOf, typeLevels}
 use Rattle.reflection.specs.Tables.{allVariables}
-use Rattle.reflection.specs.Decode.{check, decode}
+use Rattle.reflection.specs.Limits.{chunkLimit, bindingRoom, bufferRoom, variableRoom, typeRoom}
+use Rattle.reflection.specs.Strides.{rd11HeaderSize, bufferStride, variableStride, typeStride, memberStride}
+use Rattle.reflection.specs.Rd11.{rd11Allowed}
+use Rattle.reflection.specs.Decode.{check, rd11From, decode}
 use Rattle.reflection.specs.Texts.{inPlace}
 use Rattle.reflection.specs.Contents.{Bytes, contents, outerNames, innerNames, defaultsOf}
 
@@ -38,11 +41,11 @@ unfoldable pub zeroUnless : Bool → List ℕ → Bool
 zeroUnless true ws = true
 zeroUnless false ws = every (λ w. eqb w 0) ws
 
--- "major 4 or 5, RD11 words as above and only with major 5"; the strides that are not held are the paper's.
+-- "major 4 or 5, RD11 words as above and only with major 5"; the sizes that are not held are the paper's.
 unfoldable pub versionReadable : ℕ → Rd11 → Bool
 versionReadable version noRd11 = eqb (majorOf version) 4
 versionReadable version (rd11 identifier stride slots) =
-    eqb (majorOf version) 5 && ((eqb identifier 0x31314452 || eqb identifier 0x25441313) && (eqb stride 32 || eqb stride 40))
+    eqb (majorOf version) 5 && rd11Allowed identifier rd11HeaderSize bufferStride stride (variableStride true) (typeStride true) memberStride
 
 -- "codes as in 8 to 10; space and id 0 for stride 32"
 unfoldable pub bindingReadable : {N : Type 0} → Bool → ResourceBinding N → Bool
@@ -80,8 +83,9 @@ nodeCount (v ∷ vs) = length (nodesOf (v .name) 0 (v .var-type)) + nodeCount vs
 -- "room kept": document 01, "Room".
 unfoldable pub roomKept : {N D : Type 0} → ResourceDef N D → Bool
 roomKept r =
-    leb (length (r .bindings)) 1024
-    && (leb (length (r .constant-buffers)) 64 && (leb (length (allVariables (r .constant-buffers))) 2048 && leb (nodeCount (allVariables (r .constant-buffers))) 4096))
+    leb (length (r .bindings)) bindingRoom
+    && (leb (length (r .constant-buffers)) bufferRoom
+    && (leb (length (allVariables (r .constant-buffers))) variableRoom && leb (nodeCount (allVariables (r .constant-buffers))) typeRoom))
 
 -- What the contents of a readable reflection are.
 unfoldable pub readableContents : ResourceDef Bytes Bytes → Bool
@@ -92,10 +96,10 @@ readableContents r =
     && (every (bindingReadable (isWide (r .rd11))) (r .bindings)
     && (every (variableReadable (isSm5 (r .rd11))) (allVariables (r .constant-buffers)) && roomKept r))))
 
--- A header of major 4 has no RD11 words: those that it holds are 0.
+-- A header of another major than 5 has no RD11 words: those that it holds are 0.
 unfoldable pub rd11Absent : Header → Bool
 rd11Absent h =
-    zeroUnless (not (eqb (majorOf (h .«target_version»)) 4)) (h .rd11 .identifier ∷ h .rd11 .«resource_binding_stride» ∷ h .rd11 .«interface_slot_count» ∷ [])
+    zeroUnless (isSm5 (rd11From h)) (h .rd11 .identifier ∷ h .rd11 .«resource_binding_stride» ∷ h .rd11 .«interface_slot_count» ∷ [])
 
 -- Every name and default lies in the buffer that its source names.
 unfoldable pub textsInPlace : Bytes → Bytes → ResourceDef Text Text → Bool
@@ -105,7 +109,7 @@ textsInPlace chunk edits r = every (inPlace chunk edits) (outerNames r) && (ever
 -- records held". Where that is not so it has none.
 unfoldable pub held : Bytes → Bytes → Header → List ℕ → List ℕ → List ℕ → List ℕ → Option (ResourceDef Bytes Bytes)
 held chunk edits h bindings buffers variables types = do
-  _ ← check (leb (length chunk) 65536 && leb (length edits) 65536)
+  _ ← check (leb (length chunk) chunkLimit && leb (length edits) chunkLimit)
   _ ← check (rd11Absent h)
   r ← decode h bindings buffers variables types
   _ ← check (textsInPlace chunk edits r)

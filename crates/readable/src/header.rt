@@ -1,54 +1,40 @@
 // The header of a reflection: the version, the RD11 words, the creator, and how many records each table has.
 ghost use mathlib.Core.Path.{_≡_};
 ghost use Prim.Native.Nat.{_<_};
-ghost use Rattle.reflection.specs.Reflection.{isSm5, isWide, majorOf};
 ghost use Rattle.reflection.specs.Decode.{rd11From};
 ghost use Rattle.readable.specs.Readable.{versionReadable, rd11Absent};
 ghost use Rattle.readable.specs.Checks.{countHeld, countsHeld, headerHeld};
 use crate::both;
-use crate::either;
 use crate::names::name_readable;
 use crate::same;
+use reflection::BINDING_ROOM;
+use reflection::BINDING_WORDS;
+use reflection::BUFFER_ROOM;
+use reflection::BUFFER_STRIDE;
+use reflection::BUFFER_WORDS;
+use reflection::CHUNK_LIMIT;
+use reflection::MEMBER_STRIDE;
+use reflection::RD11_HEADER_SIZE;
 use reflection::ResourceDef;
+use reflection::SM5_TYPE_STRIDE;
+use reflection::SM5_VARIABLE_STRIDE;
+use reflection::TYPE_ROOM;
+use reflection::TYPE_WORDS;
+use reflection::VARIABLE_ROOM;
+use reflection::VARIABLE_WORDS;
 
-// The major version.
-fn major_of(def: ResourceDef) -> u32
-    ensures { λ r. ⌜ r ≡ majorOf (def .«target_version») ⌝ }
-{
-    def.target_version / 256 % 256
-}
-
-// Whether the reflection is of major 5: it has RD11 words.
-pub fn is_sm5(def: ResourceDef) -> bool
-    ensures { λ r. ⌜ r ≡ isSm5 (rd11From def) ⌝ }
-{
-    major_of(def) != 4
-}
-
-// Whether its bindings have space and id.
-pub fn is_wide(def: ResourceDef) -> bool
-    ensures { λ r. ⌜ r ≡ isWide (rd11From def) ⌝ }
-{
-    let rd11 = def.rd11;
-    if major_of(def) == 4 {
-        false
-    } else {
-        rd11.resource_binding_stride == 40
-    }
-}
-
-// Whether the RD11 words of major 4, which has none, are 0.
+// Whether the RD11 words of a major other than 5, which has none, are 0.
 fn rd11_absent(def: ResourceDef) -> bool
     ensures { λ r. ⌜ r ≡ rd11Absent def ⌝ }
 {
-    if major_of(def) == 4 {
+    if reflection::is_sm5(def) {
+        true
+    } else {
         let rd11 = def.rd11;
         let identifier = same(rd11.identifier, 0);
         let stride = same(rd11.resource_binding_stride, 0);
         let slots = same(rd11.interface_slot_count, 0);
         both(identifier, both(stride, slots))
-    } else {
-        true
     }
 }
 
@@ -56,20 +42,19 @@ fn rd11_absent(def: ResourceDef) -> bool
 fn version_readable(def: ResourceDef) -> bool
     ensures { λ r. ⌜ r ≡ versionReadable (def .«target_version») (rd11From def) ⌝ }
 {
-    let major = major_of(def);
-    if major == 4 {
-        true
+    let rd11 = def.rd11;
+    if reflection::is_sm5(def) {
+        reflection::rd11_allowed(
+            rd11.identifier,
+            RD11_HEADER_SIZE,
+            BUFFER_STRIDE,
+            rd11.resource_binding_stride,
+            SM5_VARIABLE_STRIDE,
+            SM5_TYPE_STRIDE,
+            MEMBER_STRIDE,
+        )
     } else {
-        let rd11 = def.rd11;
-        let identifier = either(
-            same(rd11.identifier, 0x31314452),
-            same(rd11.identifier, 0x25441313),
-        );
-        let stride = either(
-            same(rd11.resource_binding_stride, 32),
-            same(rd11.resource_binding_stride, 40),
-        );
-        both(same(major, 5), both(identifier, stride))
+        reflection::major_of(def.target_version) == 4
     }
 }
 
@@ -77,10 +62,10 @@ fn version_readable(def: ResourceDef) -> bool
 pub(crate) fn header_readable(chunk: &[u8], edits: &[u8], def: ResourceDef) -> bool
     ensures { λ r. ⌜ r ≡ headerHeld (now (chunk .entry)) (now (edits .entry)) def ⌝ }
 {
-    if 65536 < chunk.len() {
+    if CHUNK_LIMIT < chunk.len() {
         return false;
     }
-    if 65536 < edits.len() {
+    if CHUNK_LIMIT < edits.len() {
         return false;
     }
     let absent = rd11_absent(def);
@@ -90,12 +75,13 @@ pub(crate) fn header_readable(chunk: &[u8], edits: &[u8], def: ResourceDef) -> b
 }
 
 // Whether a table of so many words holds n records, and there is room for them.
-fn count_readable(n: u32, long: usize, width: usize, most: u32) -> bool
+fn count_readable(n: u32, long: usize, width: usize, most: usize) -> bool
     requires { ⌜ 0 < width ⌝ }
     ensures { λ r. ⌜ r ≡ countHeld width long most n ⌝ }
 {
-    if n as usize <= long / width {
-        n <= most
+    let count = n as usize;
+    if count <= long / width {
+        count <= most
     } else {
         false
     }
@@ -111,9 +97,9 @@ pub(crate) fn counts_readable(
 ) -> bool
     ensures { λ r. ⌜ r ≡ countsHeld def bindings buffers variables types ⌝ }
 {
-    let b = count_readable(def.binding_count, bindings, 12, 1024);
-    let f = count_readable(def.buffer_count, buffers, 7, 64);
-    let v = count_readable(def.variable_count, variables, 13, 2048);
-    let t = count_readable(def.type_count, types, 17, 4096);
+    let b = count_readable(def.binding_count, bindings, BINDING_WORDS, BINDING_ROOM);
+    let f = count_readable(def.buffer_count, buffers, BUFFER_WORDS, BUFFER_ROOM);
+    let v = count_readable(def.variable_count, variables, VARIABLE_WORDS, VARIABLE_ROOM);
+    let t = count_readable(def.type_count, types, TYPE_WORDS, TYPE_ROOM);
     both(b, both(f, both(v, t)))
 }

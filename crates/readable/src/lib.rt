@@ -1,8 +1,5 @@
 // Whether a reflection in lent tables is readable (document 01, "What a reflection holds"): the header and the counts, then the records of each table.
 ghost use mathlib.Core.Path.{_≡_};
-ghost use mathlib.Core.Bool.{_&&_, _||_};
-ghost use lib.Dec.{eqb, leb};
-ghost use lib.ListN.{length};
 ghost use Rattle.readable.specs.Readable.{readable};
 
 mod bindings;
@@ -12,38 +9,16 @@ mod names;
 mod types;
 mod variables;
 
-pub use header::is_sm5;
-pub use header::is_wide;
 use reflection::ResourceDef;
+use words::at_most;
+use words::both;
+use words::either;
+use words::same;
 
 // What the walk over a type's nodes answers: the node after them, or that a test failed.
 pub enum Walk {
     Next(usize),
     Failed,
-}
-
-fn same(a: u32, b: u32) -> bool
-    ensures { λ r. ⌜ r ≡ eqb a b ⌝ }
-{
-    a == b
-}
-
-fn at_most(a: u32, b: u32) -> bool
-    ensures { λ r. ⌜ r ≡ leb a b ⌝ }
-{
-    a <= b
-}
-
-fn both(a: bool, b: bool) -> bool
-    ensures { λ r. ⌜ r ≡ (a && b) ⌝ }
-{
-    if a { b } else { false }
-}
-
-fn either(a: bool, b: bool) -> bool
-    ensures { λ r. ⌜ r ≡ (a || b) ⌝ }
-{
-    if a { true } else { b }
 }
 
 // Whether the reflection in these tables, over these two buffers, is readable.
@@ -74,7 +49,7 @@ pub fn readable(
     if !bindings::bindings_readable(
         chunk,
         edits,
-        header::is_wide(def),
+        reflection::is_wide(def),
         bindings,
         def.binding_count,
     ) {
@@ -86,7 +61,7 @@ pub fn readable(
     variables::variables_readable(
         chunk,
         edits,
-        header::is_sm5(def),
+        reflection::is_sm5(def),
         variables,
         types,
         def.variable_count,

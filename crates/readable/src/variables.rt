@@ -9,6 +9,7 @@ use crate::names::name_readable;
 use crate::same;
 use crate::types::check_type;
 use reflection::CBufferVariable;
+use reflection::TYPE_LEVELS;
 
 // Whether a variable is readable, its type aside: its name, its default and, for major 4, that it has no slots.
 fn variable_readable(chunk: &[u8], edits: &[u8], sm5: bool, v: CBufferVariable) -> bool
@@ -44,7 +45,7 @@ pub(crate) fn variables_readable(
         if !variable_readable(chunk, edits, sm5, v) {
             return false;
         }
-        let answer = check_type(chunk, edits, sm5, types, end, false, 65, k);
+        let answer = check_type(chunk, edits, sm5, types, end, false, TYPE_LEVELS, k);
         match answer {
             Walk::Failed => {
                 return false;

@@ -5,6 +5,7 @@ use mathlib.Core.List.{List, _++_}
 use Prim.Native.Nat.{ℕ, _*_, _-_}
 use native.Mathlib.Omega.{arith}
 use lib.ListN.{length, take, replicate}
+use Rattle.reflection.specs.Limits.{bindingWidth, bufferWidth, variableWidth, typeWidth}
 use Rattle.reflection.specs.declared.Text.{Text}
 use Rattle.reflection.specs.declared.Refusal.{Refusal}
 use Rattle.reflection.specs.declared.ResourceDef.{ResourceDef as Header}
@@ -20,21 +21,21 @@ use Rattle.reader.proofs.Rows.{rows-length, binding-width, buffer-width
 
 -- The rows take as many words as the header counts.
 module _ (def : ResourceDef Text Text) where
-  binding-words-counted : length (bindingRows def) ≡ headerOf def .«binding_count» * 12
+  binding-words-counted : length (bindingRows def) ≡ headerOf def .«binding_count» * bindingWidth
   unfolding bindingRows headerOf
-  binding-words-counted = rows-length bindingWords bindingRecord 12 binding-width (def .bindings)
+  binding-words-counted = rows-length bindingWords bindingRecord bindingWidth binding-width (def .bindings)
 
-  buffer-words-counted : length (bufferRows def) ≡ headerOf def .«buffer_count» * 7
+  buffer-words-counted : length (bufferRows def) ≡ headerOf def .«buffer_count» * bufferWidth
   unfolding bufferRows headerOf
-  buffer-words-counted = rows-length bufferWords bufferRecord 7 buffer-width (def .constant-buffers)
+  buffer-words-counted = rows-length bufferWords bufferRecord bufferWidth buffer-width (def .constant-buffers)
 
-  variable-words-counted : length (variableRows def) ≡ headerOf def .«variable_count» * 13
+  variable-words-counted : length (variableRows def) ≡ headerOf def .«variable_count» * variableWidth
   unfolding variableRows headerOf
-  variable-words-counted = rows-length variableWords variableRecord 13 variable-width (allVariables (def .constant-buffers))
+  variable-words-counted = rows-length variableWords variableRecord variableWidth variable-width (allVariables (def .constant-buffers))
 
-  type-words-counted : length (typeRows def) ≡ headerOf def .«type_count» * 17
+  type-words-counted : length (typeRows def) ≡ headerOf def .«type_count» * typeWidth
   unfolding typeRows headerOf
-  type-words-counted = rows-length typeWords typeRecord 17 type-width (allNodes (allVariables (def .constant-buffers)))
+  type-words-counted = rows-length typeWords typeRecord typeWidth type-width (allNodes (allVariables (def .constant-buffers)))
 
 -- A table, cleared from a word on.
 abbrev ClearedFrom : ℕ → List ℕ → List ℕ → Type 0
@@ -77,7 +78,7 @@ module _ (b f v t : List ℕ) {nb nf nv nt : ℕ} (b-kept : length b ≡ nb) (f-
   )
 
   cleared-read : (out : Outcome (ResourceDef Text Text)) (h : Header) → Read h ≡ parsedOf out → RowsHeld (Read h) out b f v t
-      → ClearedFrom (h .«binding_count» * 12) b b′ → ClearedFrom (h .«buffer_count» * 7) f f′ → ClearedFrom (h .«variable_count» * 13) v v′ → ClearedFrom (h .«type_count» * 17) t t′
+      → ClearedFrom (h .«binding_count» * bindingWidth) b b′ → ClearedFrom (h .«buffer_count» * bufferWidth) f f′ → ClearedFrom (h .«variable_count» * variableWidth) v v′ → ClearedFrom (h .«type_count» * typeWidth) t t′
       → Parses out nb nf nv nt (Read h) b′ f′ v′ t′
   unfolding parsedOf
   cleared-read (refused d) h is held b-cleared f-cleared v-cleared t-cleared = absurd (let apart : _≡_ {A = ℕ} 0 1 = cc in omega arith)
@@ -85,12 +86,12 @@ module _ (b f v t : List ℕ) {nb nf nv nt : ℕ} (b-kept : length b ≡ nb) (f-
       let header : headerOf def ≡ h = read-header h def is in (
         is,
         (
-          cleared-after-rows bindingRows def _ nb b b′ (binding-words-counted def ∙ ap (λ (x : Header). x .«binding_count» * 12) header) (held .0) b-kept b-cleared,
+          cleared-after-rows bindingRows def _ nb b b′ (binding-words-counted def ∙ ap (λ (x : Header). x .«binding_count» * bindingWidth) header) (held .0) b-kept b-cleared,
           (
-            cleared-after-rows bufferRows def _ nf f f′ (buffer-words-counted def ∙ ap (λ (x : Header). x .«buffer_count» * 7) header) (held .1 .0) f-kept f-cleared,
+            cleared-after-rows bufferRows def _ nf f f′ (buffer-words-counted def ∙ ap (λ (x : Header). x .«buffer_count» * bufferWidth) header) (held .1 .0) f-kept f-cleared,
             (
-              cleared-after-rows variableRows def _ nv v v′ (variable-words-counted def ∙ ap (λ (x : Header). x .«variable_count» * 13) header) (held .1 .1 .0) v-kept v-cleared,
-              cleared-after-rows typeRows def _ nt t t′ (type-words-counted def ∙ ap (λ (x : Header). x .«type_count» * 17) header) (held .1 .1 .1) t-kept t-cleared,
+              cleared-after-rows variableRows def _ nv v v′ (variable-words-counted def ∙ ap (λ (x : Header). x .«variable_count» * variableWidth) header) (held .1 .1 .0) v-kept v-cleared,
+              cleared-after-rows typeRows def _ nt t t′ (type-words-counted def ∙ ap (λ (x : Header). x .«type_count» * typeWidth) header) (held .1 .1 .1) t-kept t-cleared,
             ),
           ),
         ),
@@ -104,7 +105,7 @@ module _ {out : Outcome (ResourceDef Text Text)} {b f v t : List ℕ} {r : Parse
   refused-parses e q = cleared-refused b f v t b-kept f-kept v-kept t-kept out e (sym q ∙ filled .answer)
 
   pub read-parses : (h : Header) → r ≡ Read h
-      → ClearedFrom (h .«binding_count» * 12) b b′ → ClearedFrom (h .«buffer_count» * 7) f f′ → ClearedFrom (h .«variable_count» * 13) v v′ → ClearedFrom (h .«type_count» * 17) t t′
+      → ClearedFrom (h .«binding_count» * bindingWidth) b b′ → ClearedFrom (h .«buffer_count» * bufferWidth) f f′ → ClearedFrom (h .«variable_count» * variableWidth) v v′ → ClearedFrom (h .«type_count» * typeWidth) t t′
       → Parses out nb nf nv nt (Read h) b′ f′ v′ t′
   read-parses h q =
       let read : Filled out b f v t (Read h) = subst (λ (x : Parsed). Filled out b f v t x) q filled in

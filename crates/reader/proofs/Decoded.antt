@@ -1,14 +1,14 @@
 -- Decoding what `parse_rdef` left gives exactly what was read. Decoding undoes encoding where every type has at most 65 levels, which reading sees to, level
--- by level, and where the RD11 words are none exactly for major 4, which the header's check of the major version sees to.
+-- by level, and where there are RD11 words exactly for major 5, by which reading goes.
 use mathlib.Core.Path.{_≡_, refl, sym, subst, _∙_}
-use mathlib.Core.Bool.{Bool, true, false, _||_}
+use mathlib.Core.Bool.{Bool, true, false}
 use mathlib.Core.List.{List, [], _∷_, _++_}
 use mathlib.Core.Option.{some}
 use Prim.Native.Nat.{ℕ, zero, suc, _+_}
 use native.Mathlib.Omega.{arith}
-use borrow.Author.Tests.{eqb-true}
 use lib.Dec.{eqb}
 use Rattle.words.specs.Words.{wordAt}
+use Rattle.reflection.specs.Strides.{bufferStride}
 use Rattle.reflection.specs.declared.Text.{Text}
 use Rattle.reflection.specs.declared.ResourceDef.{ResourceDef as Header}
 use Rattle.reflection.specs.Outcome.{Outcome, ok, refused}
@@ -17,17 +17,11 @@ use Rattle.reflection.specs.Nodes.{Fits, FitsAll, typeLevels}
 use Rattle.reflection.specs.Tables.{allVariables, headerOf}
 use Rattle.reflection.specs.Decode.{TypesFit, decode, rd11From}
 use Rattle.reflection.proofs.Decode.{rd11Of, rd11-of-header, decode-encoded}
-use Rattle.reading.specs.Step.{Room, Step, _>>=_, return, refuse, check}
+use Rattle.reading.specs.Step.{Room, Step, return, refuse}
 use Rattle.reading.specs.Read.{readMany, readMembers, readType, readVariable, variableFrom, variableStride, readBuffer, bufferFrom, readRd11, readTables, readChunk, withoutRoom, read}
 use Rattle.reading.proofs.Steps.{Gives, then-gives, any-gives}
 use Rattle.reader.specs.Parsed.{readInto}
 use Rattle.reader.proofs.Held.{Held}
-
--- What holds where the test holds.
-check-gives : {A : Type 0} (P : A → Type 0) (test : Bool) (n : ℕ) (f : Unit {0} → Step A) → (test ≡ true → (r : Room) → Gives P (f tt r)) → (r : Room) → Gives P ((check test n >>= f) r)
-unfolding check _>>=_ return refuse
-check-gives P true n f h r = h refl r
-check-gives P false n f h r = tt
 
 -- What holds of a list, element by element.
 many-gives : {A : Type 0} (Q : A → Type 0) (P : List A → Type 0) → P [] → ((x : A) (xs : List A) → Q x → P xs → P (x ∷ xs))
@@ -74,28 +68,26 @@ unfolding TypesFit
 fit-append [] ys p q = q
 fit-append (x ∷ xs) ys p q = (p .0, fit-append xs ys (p .1) q)
 
-buffers-fit : (s : List ℕ) (sm5 : Bool) (n at : ℕ) (r : Room) → Gives (λ bs. TypesFit (allVariables bs)) (readMany (readBuffer s sm5) 24 n at r)
+buffers-fit : (s : List ℕ) (sm5 : Bool) (n at : ℕ) (r : Room) → Gives (λ bs. TypesFit (allVariables bs)) (readMany (readBuffer s sm5) bufferStride n at r)
 unfolding allVariables TypesFit
 buffers-fit s sm5 n at r =
     many-gives (λ b. TypesFit (b .variables)) (λ bs. TypesFit (allVariables bs)) tt (λ b bs own others. fit-append (b .variables) (allVariables bs) own others)
-    (readBuffer s sm5) (buffer-fits s sm5) 24 n at r
+    (readBuffer s sm5) (buffer-fits s sm5) bufferStride n at r
 
 module _ (s : List ℕ) where
   abbrev major : ℕ
   major = majorOf (wordAt s 16)
 
   abbrev OfMajor : Rd11 → Type 0
-  OfMajor words = words ≡ rd11Of (eqb major 4) words
+  OfMajor words = words ≡ rd11Of (eqb major 5) words
 
-  rd11-of-major : (eqb major 4 || eqb major 5) ≡ true → (r : Room) → Gives OfMajor (readRd11 s (eqb major 5) r)
+  rd11-of-major : (r : Room) → Gives OfMajor (readRd11 s (eqb major 5) r)
   unfolding readRd11 return
-  rd11-of-major known r = go (eqb major 5) refl (eqb major 4) refl
+  rd11-of-major r = go (eqb major 5) refl
     where
-      go : (five : Bool) → eqb major 5 ≡ five → (four : Bool) → eqb major 4 ≡ four → Gives OfMajor (readRd11 s five r)
-      go true is-five true is-four = absurd (omega (arith, eqb-true major 5 is-five, eqb-true major 4 is-four))
-      go true is-five false is-four = any-gives OfMajor _ _ (λ _. any-gives OfMajor _ _ (λ _ w. rw is-four)) r
-      go false is-five true is-four = rw is-four
-      go false is-five false is-four = absurd (let apart : _≡_ {A = ℕ} 0 1 = cc in omega arith)
+      go : (five : Bool) → eqb major 5 ≡ five → Gives OfMajor (readRd11 s five r)
+      go true is-five = any-gives OfMajor _ _ (λ _. any-gives OfMajor _ _ (λ _ w. rw is-five)) r
+      go false is-five = rw is-five
 
 -- What decoding asks of a reflection.
 pub record Decodable (d : ResourceDef Text Text) : Type 0 where
@@ -106,13 +98,13 @@ tables-decodable : (s : List ℕ) (creator : Text) (words : Rd11) → OfMajor s 
 unfolding readTables return
 tables-decodable s creator words h r =
     any-gives Decodable _ _ (λ bs. then-gives (λ fs. TypesFit (allVariables fs)) Decodable _ _ (buffers-fit s _ _ _)
-    (λ fs all w. record { fits = all; words = h ∙ sym (rd11-of-header _ (eqb (major s) 4) refl) })) r
+    (λ fs all w. record { fits = all; words = h ∙ sym (rd11-of-header _ (eqb (major s) 5) refl) })) r
 
 chunk-decodable : (s : List ℕ) (r : Room) → Gives Decodable (readChunk s r)
 unfolding readChunk
 chunk-decodable s r =
-    any-gives Decodable _ _ (λ _. any-gives Decodable _ _ (λ _. check-gives Decodable _ 3 _ (λ known. any-gives Decodable _ _ (λ creator.
-    then-gives (OfMajor s) Decodable _ _ (rd11-of-major s known) (λ words h. tables-decodable s creator words h))))) r
+    any-gives Decodable _ _ (λ _. any-gives Decodable _ _ (λ _. any-gives Decodable _ _ (λ _. any-gives Decodable _ _ (λ creator.
+    then-gives (OfMajor s) Decodable _ _ (rd11-of-major s) (λ words h. tables-decodable s creator words h))))) r
 
 value-of : {A : Type 0} (P : A → Type 0) (x : Outcome (A × Room)) (a : A) → Gives P x → withoutRoom x ≡ ok a → P a
 value-of P (ok z) a p e = let same : z .0 ≡ a = cc in subst P same p

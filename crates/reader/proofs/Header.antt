@@ -12,12 +12,15 @@ use Rattle.words.specs.Words.{wordAt}
 use Rattle.text.specs.declared.Found.{Found}
 use Rattle.text.specs.declared.Found.the-variants.{At, Bad}
 use Rattle.text.specs.Strings.{cstringAt, Within}
+use Rattle.reflection.specs.Limits.{chunkLimit}
+use Rattle.reflection.specs.Strides.{headerSize, rd11HeaderSize, bindingStride}
+use Rattle.reflection.specs.Refusals.{chunkTooShort, chunkTooLong, badVersion, badCreator, rd11Missing, badRd11}
 use Rattle.reflection.specs.declared.Text.{Text}
 use Rattle.reflection.specs.Outcome.{Outcome, ok, refused, because}
 use Rattle.reflection.specs.Reflection.{Rd11, ResourceDef, isWide}
 use Rattle.reflection.specs.Texts.{inChunk}
 use Rattle.reading.specs.Step.{Room, Step, andThen, _>>=_, return, textOr}
-use Rattle.reading.specs.Read.{majorOf, rd11Allowed, readRd11, readTables, readChunk}
+use Rattle.reading.specs.Read.{majorOf, chunkRd11Allowed, readRd11, readTables, readChunk}
 use Rattle.reading.proofs.Steps.{check-holds, check-fails, bind-is, text-found, text-bad}
 use Rattle.reader.specs.Header.{rd11From, rd11Fault}
 
@@ -28,22 +31,19 @@ same-is x word-is h = h ∙ ap (λ (w : ℕ). eqb w x) word-is
 pub one-of-is : (x y : ℕ) {w word : ℕ} {r : Bool} → w ≡ word → r ≡ (eqb w x || eqb w y) → r ≡ (eqb word x || eqb word y)
 one-of-is x y word-is h = h ∙ ap (λ (w : ℕ). eqb w x || eqb w y) word-is
 
-pub both-are : {a b a′ b′ r : Bool} → r ≡ (a && b) → a ≡ a′ → b ≡ b′ → r ≡ (a′ && b′)
-both-are h a-is b-is = h ∙ λ i. a-is i && b-is i
-
 -- The RD11 words: what their fault is, and what reading them comes to.
 module _ (s : List ℕ) where
-  pub fault-short : length s < 60 → rd11Fault s ≡ 5
+  pub fault-short : length s < rd11HeaderSize → rd11Fault s ≡ rd11Missing
   unfolding rd11Fault
-  fault-short h = rw (lt-leb 60 (length s) h, rd11Fault)
+  fault-short h = rw (lt-leb rd11HeaderSize (length s) h, rd11Fault)
 
-  pub fault-not-allowed : 60 ≤ length s → rd11Allowed s ≡ false → rd11Fault s ≡ 6
+  pub fault-not-allowed : rd11HeaderSize ≤ length s → chunkRd11Allowed s ≡ false → rd11Fault s ≡ badRd11
   unfolding rd11Fault
-  fault-not-allowed h e = rw (le-leb 60 (length s) h, e, rd11Fault)
+  fault-not-allowed h e = rw (le-leb rd11HeaderSize (length s) h, e, rd11Fault)
 
-  pub fault-none : 60 ≤ length s → rd11Allowed s ≡ true → rd11Fault s ≡ 0
+  pub fault-none : rd11HeaderSize ≤ length s → chunkRd11Allowed s ≡ true → rd11Fault s ≡ 0
   unfolding rd11Fault
-  fault-none h e = rw (le-leb 60 (length s) h, e, rd11Fault)
+  fault-none h e = rw (le-leb rd11HeaderSize (length s) h, e, rd11Fault)
 
   module _ (r : Room) where
     -- a fault refuses, no fault gives the words
@@ -53,12 +53,12 @@ module _ (s : List ℕ) where
 
     rd11-by-fault : readRd11 s true r ≡ byFault (rd11Fault s)
     unfolding readRd11 return rd11From
-    rd11-by-fault = go (leb 60 (length s)) refl (rd11Allowed s) refl
+    rd11-by-fault = go (leb rd11HeaderSize (length s)) refl (chunkRd11Allowed s) refl
       where
-        go : (long : Bool) → leb 60 (length s) ≡ long → (allowed : Bool) → rd11Allowed s ≡ allowed → readRd11 s true r ≡ byFault (rd11Fault s)
-        go false p y q = check-fails _ _ _ _ p ∙ sym (ap byFault (fault-short (leb-false 60 (length s) p)))
-        go true p false q = check-holds _ _ _ _ p ∙ check-fails _ _ _ _ q ∙ sym (ap byFault (fault-not-allowed (leb-true 60 (length s) p) q))
-        go true p true q = check-holds _ _ _ _ p ∙ check-holds _ _ _ _ q ∙ sym (ap byFault (fault-none (leb-true 60 (length s) p) q))
+        go : (long : Bool) → leb rd11HeaderSize (length s) ≡ long → (allowed : Bool) → chunkRd11Allowed s ≡ allowed → readRd11 s true r ≡ byFault (rd11Fault s)
+        go false p y q = check-fails _ _ _ _ p ∙ sym (ap byFault (fault-short (leb-false rd11HeaderSize (length s) p)))
+        go true p false q = check-holds _ _ _ _ p ∙ check-fails _ _ _ _ q ∙ sym (ap byFault (fault-not-allowed (leb-true rd11HeaderSize (length s) p) q))
+        go true p true q = check-holds _ _ _ _ p ∙ check-holds _ _ _ _ q ∙ sym (ap byFault (fault-none (leb-true rd11HeaderSize (length s) p) q))
 
     rd11-read : rd11Fault s ≡ 0 → readRd11 s true r ≡ ok (rd11From s true, r)
     rd11-read h = rd11-by-fault ∙ ap byFault h
@@ -78,42 +78,42 @@ abbrev pub knownMajor : List ℕ → Bool
 knownMajor s = eqb (majorAt s) 4 || eqb (majorAt s) 5
 
 -- What the major version is, by the version that the code read.
-module _ (s : List ℕ) {version : ℕ} (version-is : version ≡ wordAt s 16) {r x : Bool} where
-  pub known-is : r ≡ (eqb (majorOf version) 4 || eqb (majorOf version) 5) → r ≡ x → knownMajor s ≡ x
-  known-is h e = sym (one-of-is 4 5 (ap majorOf version-is) h) ∙ e
+module _ (s : List ℕ) {version major : ℕ} (version-is : version ≡ wordAt s 16) (major-is : major ≡ majorOf version) {r x : Bool} where
+  pub known-is : r ≡ (eqb major 4 || eqb major 5) → r ≡ x → knownMajor s ≡ x
+  known-is h e = sym (one-of-is 4 5 (major-is ∙ ap majorOf version-is) h) ∙ e
 
-  pub major5-is : r ≡ eqb (majorOf version) 5 → r ≡ x → eqb (majorAt s) 5 ≡ x
-  major5-is h e = sym (same-is 5 (ap majorOf version-is) h) ∙ e
+  pub major5-is : r ≡ eqb major 5 → r ≡ x → eqb (majorAt s) 5 ≡ x
+  major5-is h e = sym (same-is 5 (major-is ∙ ap majorOf version-is) h) ∙ e
 
 pub creator-is : (s : List ℕ) {offset : ℕ} {found x : Found} → offset ≡ wordAt s 24 → found ≡ cstringAt s offset → found ≡ x → cstringAt s (wordAt s 24) ≡ x
 creator-is s offset-is h e = ap (cstringAt s) (sym offset-is) ∙ sym h ∙ e
 
-pub creator-fits : (s : List ℕ) {found : Found} (place n : ℕ) → length s ≤ 65536 → Within (length s) found → found ≡ At place n → place + n ≤ 65536
+pub creator-fits : (s : List ℕ) {found : Found} (place n : ℕ) → length s ≤ chunkLimit → Within (length s) found → found ≡ At place n → place + n ≤ chunkLimit
 creator-fits s place n short within e = let h : place + n ≤ length s = subst (Within (length s)) e within in omega arith
 
 module _ (s : List ℕ) where
-  pub refused-too-short : length s < 28 → (r : Room) → readChunk s r ≡ refused (because 1)
+  pub refused-too-short : length s < headerSize → (r : Room) → readChunk s r ≡ refused (because chunkTooShort)
   unfolding readChunk
-  refused-too-short h r = check-fails _ _ _ _ (lt-leb 28 (length s) h)
+  refused-too-short h r = check-fails _ _ _ _ (lt-leb headerSize (length s) h)
 
-  module _ (long : 28 ≤ length s) where
-    pub refused-too-long : 65536 < length s → (r : Room) → readChunk s r ≡ refused (because 2)
+  module _ (long : headerSize ≤ length s) where
+    pub refused-too-long : chunkLimit < length s → (r : Room) → readChunk s r ≡ refused (because chunkTooLong)
     unfolding readChunk
-    refused-too-long h r = check-holds _ _ _ _ (le-leb 28 (length s) long) ∙ check-fails _ _ _ _ (lt-leb (length s) 65536 h)
+    refused-too-long h r = check-holds _ _ _ _ (le-leb headerSize (length s) long) ∙ check-fails _ _ _ _ (lt-leb (length s) chunkLimit h)
 
-    module _ (short : length s ≤ 65536) where
-      pub refused-major : knownMajor s ≡ false → (r : Room) → readChunk s r ≡ refused (because 3)
+    module _ (short : length s ≤ chunkLimit) where
+      pub refused-major : knownMajor s ≡ false → (r : Room) → readChunk s r ≡ refused (because badVersion)
       unfolding readChunk
       refused-major h r =
-          check-holds _ _ _ _ (le-leb 28 (length s) long) ∙ check-holds _ _ _ _ (le-leb (length s) 65536 short) ∙ check-fails _ _ _ _ h
+          check-holds _ _ _ _ (le-leb headerSize (length s) long) ∙ check-holds _ _ _ _ (le-leb (length s) chunkLimit short) ∙ check-fails _ _ _ _ h
 
       module _ (known : knownMajor s ≡ true) where
-        from-creator : (r : Room) → readChunk s r ≡ (textOr 4 (cstringAt s (wordAt s 24)) >>= λ creator. readRd11 s (eqb (majorAt s) 5) >>= readTables s creator) r
+        from-creator : (r : Room) → readChunk s r ≡ (textOr badCreator (cstringAt s (wordAt s 24)) >>= λ creator. readRd11 s (eqb (majorAt s) 5) >>= readTables s creator) r
         unfolding readChunk
         from-creator r =
-            check-holds _ _ _ _ (le-leb 28 (length s) long) ∙ check-holds _ _ _ _ (le-leb (length s) 65536 short) ∙ check-holds _ _ _ _ known
+            check-holds _ _ _ _ (le-leb headerSize (length s) long) ∙ check-holds _ _ _ _ (le-leb (length s) chunkLimit short) ∙ check-holds _ _ _ _ known
 
-        pub refused-creator : cstringAt s (wordAt s 24) ≡ Bad → (r : Room) → readChunk s r ≡ refused (because 4)
+        pub refused-creator : cstringAt s (wordAt s 24) ≡ Bad → (r : Room) → readChunk s r ≡ refused (because badCreator)
         refused-creator h r = from-creator r ∙ text-bad _ _ _ _ h
 
         module _ (place n : ℕ) (creator : cstringAt s (wordAt s 24) ≡ At place n) where
@@ -128,15 +128,17 @@ module _ (s : List ℕ) where
           refused-rd11 five e q h r =
               from-rd11 true five r ∙ ap (λ (x : Outcome (Rd11 × Room)). andThen x (readTables s (inChunk place n))) (rd11-refused s r e q h)
 
-          pub valid-major5 : eqb (majorAt s) 5 ≡ true → rd11Fault s ≡ 0 → (r : Room) → readChunk s r ≡ readTables s (inChunk place n) (rd11From s true) r
-          valid-major5 five h r =
+          pub valid-major5 : {text : Text} → text ≡ inChunk place n → eqb (majorAt s) 5 ≡ true → rd11Fault s ≡ 0 → (r : Room) → readChunk s r ≡ readTables s text (rd11From s true) r
+          valid-major5 is-text five h r =
               from-rd11 true five r ∙ ap (λ (x : Outcome (Rd11 × Room)). andThen x (readTables s (inChunk place n))) (rd11-read s r h)
+              ∙ ap (λ (x : Text). readTables s x (rd11From s true) r) (sym is-text)
 
-          pub valid-major4 : eqb (majorAt s) 5 ≡ false → (r : Room) → readChunk s r ≡ readTables s (inChunk place n) (rd11From s false) r
-          valid-major4 four r =
+          pub valid-major4 : {text : Text} → text ≡ inChunk place n → eqb (majorAt s) 5 ≡ false → (r : Room) → readChunk s r ≡ readTables s text (rd11From s false) r
+          valid-major4 is-text four r =
               from-rd11 false four r ∙ ap (λ (x : Outcome (Rd11 × Room)). andThen x (readTables s (inChunk place n))) (rd11-none s r)
+              ∙ ap (λ (x : Text). readTables s x (rd11From s false) r) (sym is-text)
 
-pub wide-major5 : (s : List ℕ) (wide : Bool) → wide ≡ eqb (wordAt s 40) 40 → wide ≡ isWide (rd11From s true)
+pub wide-major5 : (s : List ℕ) (wide : Bool) → wide ≡ eqb (wordAt s 40) (bindingStride true) → wide ≡ isWide (rd11From s true)
 unfolding rd11From
 wide-major5 s wide h = h
 

@@ -4,6 +4,7 @@ use mathlib.Core.Path.{_≡_, refl, sym, ap, _∙_}
 use mathlib.Core.List.{List, [], _∷_, _++_, map, append-assoc, append-nil}
 use Prim.Native.Nat.{ℕ, _*_}
 use lib.ListN.{length, length-map}
+use Rattle.reflection.specs.Limits.{bindingWidth, bufferWidth, variableWidth, typeWidth}
 use Rattle.reflection.specs.declared.Text.{Text}
 use Rattle.reflection.specs.declared.ResourceBinding.{ResourceBinding as BindingRecord}
 use Rattle.reflection.specs.declared.CBufferDef.{CBufferDef as BufferRecord}
@@ -40,19 +41,19 @@ module _ {A R : Type 0} (words : R → List ℕ) (record-of : A → R) where
   rows-length width h xs = length-joined width words h (map record-of xs) ∙ ap (λ (n : ℕ). n * width) (length-map xs record-of)
 
 -- How many words each record has.
-pub binding-width : (x : BindingRecord) → length (bindingWords x) ≡ 12
+pub binding-width : (x : BindingRecord) → length (bindingWords x) ≡ bindingWidth
 unfolding bindingWords
 binding-width x = refl
 
-pub buffer-width : (x : BufferRecord) → length (bufferWords x) ≡ 7
+pub buffer-width : (x : BufferRecord) → length (bufferWords x) ≡ bufferWidth
 unfolding bufferWords
 buffer-width x = refl
 
-pub variable-width : (x : VariableRecord) → length (variableWords x) ≡ 13
+pub variable-width : (x : VariableRecord) → length (variableWords x) ≡ variableWidth
 unfolding variableWords
 variable-width x = refl
 
-pub type-width : (x : TypeRecord) → length (typeWords x) ≡ 17
+pub type-width : (x : TypeRecord) → length (typeWords x) ≡ typeWidth
 unfolding typeWords
 type-width x = refl
 

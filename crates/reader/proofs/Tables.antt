@@ -9,6 +9,8 @@ use native.Mathlib.Omega.{arith}
 use lib.ListN.{length, take}
 use lib.Seq.{length-take-le}
 use Rattle.words.specs.Words.{wordAt}
+use Rattle.reflection.specs.Limits.{bindingRoom, bufferRoom, variableRoom, typeRoom, chunkLimit, bindingWidth, bufferWidth, variableWidth, typeWidth}
+use Rattle.reflection.specs.Strides.{bufferStride}
 use Rattle.reflection.specs.declared.Text.{Text}
 use Rattle.reflection.specs.declared.Refusal.{Refusal}
 use Rattle.reflection.specs.declared.ResourceDef.{ResourceDef as Header}
@@ -78,7 +80,7 @@ pub buffers-within : {out : Words → Room → Progress Words} {fcap vcap tcap x
     → WalkedBuffers out fcap vcap tcap f v t answer → answer ≡ BuffersFilled x y z → (x ≤ fcap) × ((y ≤ vcap) × (z ≤ tcap))
 buffers-within {fcap = fcap} {vcap} {tcap} walked came = let grew = subst (BuffersGrew fcap vcap tcap) came (walked .grew) in (grew .0 .high, (grew .1 .0 .high, grew .1 .1 .high))
 
-pub chunk-fits : (s : List ℕ) {h : ChunkHeader} {creator : Text} {sm5 wide : Bool} → h ≡ Valid creator sm5 wide → Headed s h → length s ≤ 65536
+pub chunk-fits : (s : List ℕ) {h : ChunkHeader} {creator : Text} {sm5 wide : Bool} → h ≡ Valid creator sm5 wide → Headed s h → length s ≤ chunkLimit
 chunk-fits s {creator = creator} {sm5} {wide} q headed = let valid : Headed s (Valid creator sm5 wide) = subst (Headed s) q headed in valid .0
 
 -- A refusal is the answer, and says nothing of the tables.
@@ -92,10 +94,10 @@ header-refused s {b} {f} {v} {t} e q headed = let invalid : Headed s (Invalid e)
 
 -- The capacities are the room of the tables b, f, v and t.
 pub record Capacities (b f v t : List ℕ) (bcap fcap vcap tcap : ℕ) : Type 0 where
-  pub bindings : bcap ≡ min (length b / 12) 1024
-  pub buffers : fcap ≡ min (length f / 7) 64
-  pub variables : vcap ≡ min (length v / 13) 2048
-  pub types : tcap ≡ min (length t / 17) 4096
+  pub bindings : bcap ≡ min (length b / bindingWidth) bindingRoom
+  pub buffers : fcap ≡ min (length f / bufferWidth) bufferRoom
+  pub variables : vcap ≡ min (length v / variableWidth) variableRoom
+  pub types : tcap ≡ min (length t / typeWidth) typeRoom
 
 module _ (s : List ℕ) {b f v t : List ℕ} {bcap fcap vcap tcap : ℕ} (capacities : Capacities b f v t bcap fcap vcap tcap)
     {h : ChunkHeader} {creator : Text} {sm5 wide : Bool} (q : h ≡ Valid creator sm5 wide) (headed : Headed s h) where
@@ -115,7 +117,7 @@ module _ (s : List ℕ) {b f v t : List ℕ} {bcap fcap vcap tcap : ℕ} (capaci
   readBindings = readMany (readBinding s (isWide rd11)) (bindingStride (isWide rd11)) (wordAt s 8) (wordAt s 12)
 
   abbrev readBuffers : Step (List (CBufferDef Text Text))
-  readBuffers = readMany (readBuffer s (isSm5 rd11)) 24 (wordAt s 0) (wordAt s 4)
+  readBuffers = readMany (readBuffer s (isSm5 rd11)) bufferStride (wordAt s 0) (wordAt s 4)
 
   abbrev whole : List (ResourceBinding Text) → List (CBufferDef Text Text) → ResourceDef Text Text
   whole bs fs = record { target-version = wordAt s 16; compile-flags = wordAt s 20; rd11 = rd11; creator = creator; bindings = bs; constant-buffers = fs }
@@ -152,8 +154,8 @@ module _ (s : List ℕ) {b f v t : List ℕ} {bcap fcap vcap tcap : ℕ} (capaci
       abbrev left : Room
       left = room (bcap - m) fcap vcap tcap
 
-      bindings-read : WasRead (appendAll appendBinding) (readBindings start) [] (take (m * 12) b₁) left
-      bindings-read = reached-read (appendAll appendBinding) [] (readBindings start) (take (m * 12) b₁) left (bindings-outcome ∙ ap answeredBy came)
+      bindings-read : WasRead (appendAll appendBinding) (readBindings start) [] (take (m * bindingWidth) b₁) left
+      bindings-read = reached-read (appendAll appendBinding) [] (readBindings start) (take (m * bindingWidth) b₁) left (bindings-outcome ∙ ap answeredBy came)
 
       out-from-buffers : out ≡ withoutRoom (andThen (readBuffers left) (λ fs. return (whole (bindings-read .value) fs)))
       out-from-buffers =
@@ -180,7 +182,7 @@ module _ (s : List ℕ) {b f v t : List ℕ} {bcap fcap vcap tcap : ℕ} (capaci
 
         module _ {x y z : ℕ} (fcame : fanswer ≡ BuffersFilled x y z) where
           abbrev words : Words
-          words = (take (x * 7) f₁, (take (y * 13) v₁, take (z * 17) t₁))
+          words = (take (x * bufferWidth) f₁, (take (y * variableWidth) v₁, take (z * typeWidth) t₁))
 
           abbrev end : Room
           end = room (bcap - m) (fcap - x) (vcap - y) (tcap - z)
@@ -197,7 +199,7 @@ module _ (s : List ℕ) {b f v t : List ℕ} {bcap fcap vcap tcap : ℕ} (capaci
               out-from-buffers
               ∙ ap (λ (o : Outcome (List (CBufferDef Text Text) × Room)). withoutRoom (andThen o (λ fs. return (whole (bindings-read .value) fs)))) (buffers-read .is)
 
-          binding-words : bindingRows def ≡ take (m * 12) b₁
+          binding-words : bindingRows def ≡ take (m * bindingWidth) b₁
           unfolding bindingRows
           binding-words = sym (bindings-append-rows (def .bindings) []) ∙ bindings-read .words
 
@@ -227,15 +229,15 @@ module _ (s : List ℕ) {b f v t : List ℕ} {bcap fcap vcap tcap : ℕ} (capaci
                 let fs = def .constant-buffers in
                 let within = buffers-within fwalked fcame in
                 let bs-count : m ≡ length (def .bindings) =
-                counted 12 b₁ (omega arith) (omega (arith, bindings-within walked came, capacities .bindings, b-kept)) binding-words (rows-length bindingWords bindingRecord 12 binding-width (def .bindings)) in
+                counted bindingWidth b₁ (omega arith) (omega (arith, bindings-within walked came, capacities .bindings, b-kept)) binding-words (rows-length bindingWords bindingRecord bindingWidth binding-width (def .bindings)) in
                 let fs-count : x ≡ length fs =
-                counted 7 f₁ (omega arith) (omega (arith, within .0, capacities .buffers, f-kept)) (λ i. other-words i .0) (rows-length bufferWords bufferRecord 7 buffer-width fs) in
+                counted bufferWidth f₁ (omega arith) (omega (arith, within .0, capacities .buffers, f-kept)) (λ i. other-words i .0) (rows-length bufferWords bufferRecord bufferWidth buffer-width fs) in
                 let vs-count : y ≡ length (allVariables fs) =
-                counted 13 v₁ (omega arith) (omega (arith, within .1 .0, capacities .variables, v-kept)) (λ i. other-words i .1 .0)
-                (rows-length variableWords variableRecord 13 variable-width (allVariables fs)) in
+                counted variableWidth v₁ (omega arith) (omega (arith, within .1 .0, capacities .variables, v-kept)) (λ i. other-words i .1 .0)
+                (rows-length variableWords variableRecord variableWidth variable-width (allVariables fs)) in
                 let ts-count : z ≡ length (allNodes (allVariables fs)) =
-                counted 17 t₁ (omega arith) (omega (arith, within .1 .1, capacities .types, t-kept)) (λ i. other-words i .1 .1)
-                (rows-length typeWords typeRecord 17 type-width (allNodes (allVariables fs))) in
+                counted typeWidth t₁ (omega arith) (omega (arith, within .1 .1, capacities .types, t-kept)) (λ i. other-words i .1 .1)
+                (rows-length typeWords typeRecord typeWidth type-width (allNodes (allVariables fs))) in
                 λ i. record {
                   «target_version» = version-is i;
                   «compile_flags» = flags-is i;
@@ -259,7 +261,7 @@ module _ (s : List ℕ) {b f v t : List ℕ} {bcap fcap vcap tcap : ℕ} (capaci
             tables-filled = record {
               answer = ap Read header-is ∙ sym (ap parsedOf out-read);
               rows = (
-                rows-are bindingRows b₁ (m * 12) binding-words,
-                (rows-are bufferRows f₁ (x * 7) (λ i. other-words i .0), (rows-are variableRows v₁ (y * 13) (λ i. other-words i .1 .0), rows-are typeRows t₁ (z * 17) (λ i. other-words i .1 .1))),
+                rows-are bindingRows b₁ (m * bindingWidth) binding-words,
+                (rows-are bufferRows f₁ (x * bufferWidth) (λ i. other-words i .0), (rows-are variableRows v₁ (y * variableWidth) (λ i. other-words i .1 .0), rows-are typeRows t₁ (z * typeWidth) (λ i. other-words i .1 .1))),
               );
             }

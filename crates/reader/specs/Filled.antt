@@ -3,6 +3,7 @@ use mathlib.Core.Path.{_≡_}
 use mathlib.Core.List.{List}
 use Prim.Native.Nat.{ℕ, _*_}
 use lib.ListN.{length, take}
+use Rattle.reflection.specs.Limits.{bindingWidth, bufferWidth, variableWidth, typeWidth}
 use Rattle.reflection.specs.declared.Text.{Text}
 use Rattle.reflection.specs.declared.ResourceDef.{ResourceDef as Header}
 use Rattle.reflection.specs.Outcome.{Outcome, ok, refused}
@@ -19,10 +20,10 @@ rowsOf rows (refused e) old = old
 
 abbrev pub RowsHeld : Parsed → Outcome (ResourceDef Text Text) → List ℕ → List ℕ → List ℕ → List ℕ → Type 0
 RowsHeld (Read h) out bindings buffers variables types =
-    (take (h .«binding_count» * 12) bindings ≡ rowsOf bindingRows out bindings)
-    × ((take (h .«buffer_count» * 7) buffers ≡ rowsOf bufferRows out buffers)
-    × ((take (h .«variable_count» * 13) variables ≡ rowsOf variableRows out variables)
-    × (take (h .«type_count» * 17) types ≡ rowsOf typeRows out types)))
+    (take (h .«binding_count» * bindingWidth) bindings ≡ rowsOf bindingRows out bindings)
+    × ((take (h .«buffer_count» * bufferWidth) buffers ≡ rowsOf bufferRows out buffers)
+    × ((take (h .«variable_count» * variableWidth) variables ≡ rowsOf variableRows out variables)
+    × (take (h .«type_count» * typeWidth) types ≡ rowsOf typeRows out types)))
 RowsHeld (Refused e) out bindings buffers variables types = Unit
 
 pub record Filled (out : Outcome (ResourceDef Text Text)) (bindings buffers variables types : List ℕ) (r : Parsed) : Type 0 where

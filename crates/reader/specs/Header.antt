@@ -6,11 +6,14 @@ use Prim.Native.Nat.{ℕ, _≤_}
 use lib.Dec.{leb}
 use lib.ListN.{length}
 use Rattle.words.specs.Words.{wordAt}
+use Rattle.reflection.specs.Limits.{chunkLimit}
+use Rattle.reflection.specs.Strides.{rd11HeaderSize}
+use Rattle.reflection.specs.Refusals.{rd11Missing, badRd11}
 use Rattle.reflection.specs.declared.Text.{Text}
 use Rattle.reflection.specs.Outcome.{Outcome, ok, refused}
 use Rattle.reflection.specs.Reflection.{Rd11, noRd11, rd11, isWide}
 use Rattle.reading.specs.Step.{Room}
-use Rattle.reading.specs.Read.{readChunk, readTables, rd11Allowed}
+use Rattle.reading.specs.Read.{readChunk, readTables, chunkRd11Allowed}
 use Rattle.reader.specs.declared.ChunkHeader.{ChunkHeader}
 use Rattle.reader.specs.declared.ChunkHeader.the-variants.{Valid, Invalid}
 
@@ -19,12 +22,12 @@ unfoldable pub rd11From : List ℕ → Bool → Rd11
 rd11From s false = noRd11
 rd11From s true = rd11 (wordAt s 28) (wordAt s 40) (wordAt s 56)
 
--- 5 or 6 where the RD11 words are not there or not allowed, else 0.
+-- The refusal where the RD11 words are not there or not allowed, else 0.
 unfoldable pub rd11Fault : List ℕ → ℕ
-rd11Fault s = elim (leb 60 (length s)) [ true ↦ elim (rd11Allowed s) [ true ↦ 0 | false ↦ 6 ] | false ↦ 5 ]
+rd11Fault s = elim (leb rd11HeaderSize (length s)) [ true ↦ elim (chunkRd11Allowed s) [ true ↦ 0 | false ↦ badRd11 ] | false ↦ rd11Missing ]
 
 -- A fault is the answer for every room; a valid header leaves the tables to be read.
 abbrev pub Headed : List ℕ → ChunkHeader → Type 0
 Headed s (Invalid e) = (r : Room) → readChunk s r ≡ refused e
 Headed s (Valid creator sm5 wide) =
-    (length s ≤ 65536) × ((wide ≡ isWide (rd11From s sm5)) × ((r : Room) → readChunk s r ≡ readTables s creator (rd11From s sm5) r))
+    (length s ≤ chunkLimit) × ((wide ≡ isWide (rd11From s sm5)) × ((r : Room) → readChunk s r ≡ readTables s creator (rd11From s sm5) r))

@@ -1,20 +1,38 @@
 // Reading an RDEF chunk into lent tables (document 01, "Walk order").
 ghost use mathlib.Core.Path.{_≡_};
-ghost use mathlib.Core.Bool.{_&&_, _||_};
-ghost use lib.Dec.{eqb};
 ghost use lib.ListN.{length};
 ghost use Rattle.reflection.specs.Tables.{bindingRows, bufferRows, variableRows, typeRows, table};
-ghost use Rattle.reading.specs.Read.{rd11Allowed};
 ghost use Rattle.reader.specs.Header.{Headed, rd11Fault};
 ghost use Rattle.reader.specs.Parsed.{parsedOf, readInto};
 ghost use Rattle.reader.specs.Filled.{Filled};
+use reflection::BAD_CREATOR;
+use reflection::BAD_RD11;
+use reflection::BAD_VERSION;
+use reflection::BINDING_ROOM;
+use reflection::BINDING_WORDS;
+use reflection::BUFFER_ROOM;
+use reflection::BUFFER_WORDS;
+use reflection::CHUNK_LIMIT;
+use reflection::CHUNK_TOO_LONG;
+use reflection::CHUNK_TOO_SHORT;
+use reflection::HEADER_SIZE;
+use reflection::RD11_HEADER_SIZE;
+use reflection::RD11_MISSING;
 use reflection::Rd11Header;
 use reflection::Refusal;
 use reflection::ResourceDef;
+use reflection::TYPE_LEVELS;
+use reflection::TYPE_ROOM;
+use reflection::TYPE_WORDS;
 use reflection::Text;
+use reflection::VARIABLE_ROOM;
+use reflection::VARIABLE_WORDS;
+use reflection::WIDE_BINDING_STRIDE;
 use table_walk::BuffersWalk;
 use text::Found;
 use type_walk::Walk;
+use words::one_of;
+use words::same;
 
 // What reading a chunk answers: the header, or why the chunk was refused.
 pub enum Parsed {
@@ -22,83 +40,63 @@ pub enum Parsed {
     Refused(Refusal),
 }
 
-// What the chunk's header says: the creator, whether the chunk is of major 5, and whether its bindings take 40 bytes.
+// What the chunk's header says: the creator, whether the chunk is of major 5, and whether its bindings have space and id.
 pub enum ChunkHeader {
     Valid(Text, bool, bool),
     Invalid(Refusal),
 }
 
-fn same(a: u32, b: u32) -> bool
-    ensures { λ r. ⌜ r ≡ eqb a b ⌝ }
-{
-    a == b
-}
-
-fn one_of(x: u32, a: u32, b: u32) -> bool
-    ensures { λ r. ⌜ r ≡ (eqb x a || eqb x b) ⌝ }
-{
-    if x == a { true } else { x == b }
-}
-
-fn both(a: bool, b: bool) -> bool
-    ensures { λ r. ⌜ r ≡ (a && b) ⌝ }
-{
-    if a { b } else { false }
-}
-
-// Whether the RD11 words are allowed.
-fn rd11_allowed(s: &[u8]) -> bool
-    ensures { λ r. ⌜ r ≡ rd11Allowed (now (s .entry)) ⌝ }
-{
-    let identifier = one_of(words::word_at(s, 28), 0x31314452, 0x25441313);
-    let header = same(words::word_at(s, 32), 60);
-    let buffer = same(words::word_at(s, 36), 24);
-    let binding = one_of(words::word_at(s, 40), 32, 40);
-    let variable = same(words::word_at(s, 44), 40);
-    let kind = same(words::word_at(s, 48), 36);
-    let member = same(words::word_at(s, 52), 12);
-    let tail = both(variable, both(kind, member));
-    let rest = both(buffer, both(binding, tail));
-    both(identifier, both(header, rest))
-}
-
-// 5 or 6 where the RD11 words are not there or not allowed, else 0.
+// The refusal where the RD11 words are not there or not allowed, else 0.
 fn rd11_fault(s: &[u8]) -> u32
     ensures { λ r. ⌜ r ≡ rd11Fault (now (s .entry)) ⌝ }
 {
-    if s.len() < 60 {
-        return 5;
+    if s.len() < RD11_HEADER_SIZE as usize {
+        return RD11_MISSING;
     }
-    if rd11_allowed(s) { 0 } else { 6 }
+    if reflection::rd11_allowed(
+        words::word_at(s, 28),
+        words::word_at(s, 32),
+        words::word_at(s, 36),
+        words::word_at(s, 40),
+        words::word_at(s, 44),
+        words::word_at(s, 48),
+        words::word_at(s, 52),
+    ) {
+        0
+    } else {
+        BAD_RD11
+    }
 }
 
 // Reads the header: length, major version, creator, RD11 words.
 fn read_header(s: &[u8]) -> ChunkHeader
     ensures { λ r. ⌜ Headed (now (s .entry)) r ⌝ }
 {
-    if s.len() < 28 {
-        return ChunkHeader::Invalid(Refusal { number: 1 });
+    if s.len() < HEADER_SIZE as usize {
+        return ChunkHeader::Invalid(Refusal {
+            number: CHUNK_TOO_SHORT,
+        });
     }
-    if 65536 < s.len() {
-        return ChunkHeader::Invalid(Refusal { number: 2 });
+    if CHUNK_LIMIT < s.len() {
+        return ChunkHeader::Invalid(Refusal {
+            number: CHUNK_TOO_LONG,
+        });
     }
     let version = words::word_at(s, 16);
-    let major = version / 256 % 256;
+    let major = reflection::major_of(version);
     let sm5 = same(major, 5);
     if one_of(major, 4, 5) {
         let offset = words::word_at(s, 24);
         let found = text::cstring_at(s, offset as usize);
         match found {
-            Found::Bad => ChunkHeader::Invalid(Refusal { number: 4 }),
+            Found::Bad => ChunkHeader::Invalid(Refusal {
+                number: BAD_CREATOR,
+            }),
             Found::At(place, long) => {
-                let creator = Text {
-                    source: 0,
-                    place: place as u32,
-                    length: long as u32,
-                };
+                let creator = reflection::in_chunk(place as u32, long as u32);
                 if sm5 {
                     let fault = rd11_fault(s);
-                    let wide = same(words::word_at(s, 40), 40);
+                    let wide = same(words::word_at(s, 40), WIDE_BINDING_STRIDE);
                     if 0 < fault {
                         ChunkHeader::Invalid(Refusal { number: fault })
                     } else {
@@ -110,7 +108,9 @@ fn read_header(s: &[u8]) -> ChunkHeader
             }
         }
     } else {
-        ChunkHeader::Invalid(Refusal { number: 3 })
+        ChunkHeader::Invalid(Refusal {
+            number: BAD_VERSION,
+        })
     }
 }
 
@@ -130,10 +130,10 @@ fn read_tables(
     match header {
         ChunkHeader::Invalid(refusal) => Parsed::Refused(refusal),
         ChunkHeader::Valid(creator, sm5, wide) => {
-            let bcap = words::least(bindings.len() / 12, 1024);
-            let fcap = words::least(buffers.len() / 7, 64);
-            let vcap = words::least(variables.len() / 13, 2048);
-            let tcap = words::least(types.len() / 17, 4096);
+            let bcap = words::least(bindings.len() / BINDING_WORDS, BINDING_ROOM);
+            let fcap = words::least(buffers.len() / BUFFER_WORDS, BUFFER_ROOM);
+            let vcap = words::least(variables.len() / VARIABLE_WORDS, VARIABLE_ROOM);
+            let tcap = words::least(types.len() / TYPE_WORDS, TYPE_ROOM);
             let bcount = words::word_at(chunk, 8);
             let bfirst = words::word_at(chunk, 12);
             let walked = table_walk::walk_bindings(chunk, bfirst, bcount, wide, bcap, bindings);
@@ -142,7 +142,7 @@ fn read_tables(
                 Walk::Next(b) => {
                     let fcount = words::word_at(chunk, 0);
                     let ffirst = words::word_at(chunk, 4);
-                    let mut path = [0u32; 65];
+                    let mut path = [0u32; TYPE_LEVELS];
                     let filled = table_walk::walk_buffers(
                         chunk,
                         ffirst,
@@ -203,10 +203,10 @@ pub fn parse_rdef(
             Parsed::Refused(refusal)
         }
         Parsed::Read(def) => {
-            words::clear_from(bindings, def.binding_count as usize * 12);
-            words::clear_from(buffers, def.buffer_count as usize * 7);
-            words::clear_from(variables, def.variable_count as usize * 13);
-            words::clear_from(types, def.type_count as usize * 17);
+            words::clear_from(bindings, def.binding_count as usize * BINDING_WORDS);
+            words::clear_from(buffers, def.buffer_count as usize * BUFFER_WORDS);
+            words::clear_from(variables, def.variable_count as usize * VARIABLE_WORDS);
+            words::clear_from(types, def.type_count as usize * TYPE_WORDS);
             Parsed::Read(def)
         }
     }

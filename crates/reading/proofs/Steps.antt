@@ -8,6 +8,8 @@ use Rattle.text.specs.declared.Found.{Found}
 use Rattle.text.specs.declared.Found.the-variants.{At, Bad}
 use Rattle.reflection.specs.declared.Text.{Text}
 use Rattle.reflection.specs.Outcome.{Outcome, ok, refused, because}
+use Rattle.reflection.specs.Refusals.{noRoom}
+use Rattle.reflection.specs.Strides.{memberStride}
 use Rattle.reflection.specs.Reflection.{TypeDesc, Members, noMember, member, memberCount}
 use Rattle.reflection.specs.Texts.{inChunk}
 use Rattle.reading.specs.Step.{Room, room, Step, andThen, _>>=_, return, refuse, check, textOr, takeBinding, takeBuffer, takeVariable, takeType}
@@ -34,9 +36,9 @@ module _ {A : Type 0} (n : ℕ) (x : Found) (f : Text → Step A) (room : Room) 
   unfolding _>>=_ textOr refuse
   text-bad h = ap (λ (y : Found). andThen (textOr n y room) f) h
 
--- A record is taken where there is room, and refused by 15 where there is none.
+-- A record is taken where there is room, and refused where there is none.
 module _ {A : Type 0} (b f v t : ℕ) (g : Unit {0} → Step A) where
-  pub binding-none : (takeBinding >>= g) (room 0 f v t) ≡ refused (because 15)
+  pub binding-none : (takeBinding >>= g) (room 0 f v t) ≡ refused (because noRoom)
   unfolding takeBinding _>>=_
   binding-none = refl
 
@@ -44,7 +46,7 @@ module _ {A : Type 0} (b f v t : ℕ) (g : Unit {0} → Step A) where
   unfolding takeBinding _>>=_
   binding-taken = refl
 
-  pub buffer-none : (takeBuffer >>= g) (room b 0 v t) ≡ refused (because 15)
+  pub buffer-none : (takeBuffer >>= g) (room b 0 v t) ≡ refused (because noRoom)
   unfolding takeBuffer _>>=_
   buffer-none = refl
 
@@ -52,7 +54,7 @@ module _ {A : Type 0} (b f v t : ℕ) (g : Unit {0} → Step A) where
   unfolding takeBuffer _>>=_
   buffer-taken = refl
 
-  pub variable-none : (takeVariable >>= g) (room b f 0 t) ≡ refused (because 15)
+  pub variable-none : (takeVariable >>= g) (room b f 0 t) ≡ refused (because noRoom)
   unfolding takeVariable _>>=_
   variable-none = refl
 
@@ -60,7 +62,7 @@ module _ {A : Type 0} (b f v t : ℕ) (g : Unit {0} → Step A) where
   unfolding takeVariable _>>=_
   variable-taken = refl
 
-  pub type-none : (takeType >>= g) (room b f v 0) ≡ refused (because 15)
+  pub type-none : (takeType >>= g) (room b f v 0) ≡ refused (because noRoom)
   unfolding takeType _>>=_
   type-none = refl
 
@@ -95,7 +97,7 @@ unfolding readMembers memberCount return
 members-count readType s zero at r = refl
 members-count readType s (suc n) at r =
     any-gives (λ ms. memberCount ms ≡ suc n) _ _ (λ _. any-gives (λ ms. memberCount ms ≡ suc n) _ _ (λ nm. any-gives (λ ms. memberCount ms ≡ suc n) _ _ (λ t.
-    then-gives (λ ms. memberCount ms ≡ n) (λ ms. memberCount ms ≡ suc n) _ _ (members-count readType s n (at + 12)) (λ ms e w. ap suc e)))) r
+    then-gives (λ ms. memberCount ms ≡ n) (λ ms. memberCount ms ≡ suc n) _ _ (members-count readType s n (at + memberStride)) (λ ms e w. ap suc e)))) r
 
 pub many-length : {A : Type 0} (read : ℕ → Step A) (stride n at : ℕ) (r : Room) → Gives (λ xs. length xs ≡ n) (readMany read stride n at r)
 unfolding readMany return

@@ -1,5 +1,5 @@
 -- Reading an RDEF chunk: document 01, "Walk order", to the letter. The numbers are those of its table of refusals.
-use mathlib.Core.Bool.{Bool, true, false, _&&_, _||_, not}
+use mathlib.Core.Bool.{Bool, true, false, _||_, not}
 use mathlib.Core.List.{List, [], _∷_}
 use Prim.Native.Nat.{ℕ, zero, suc, _+_}
 use lib.Dec.{eqb, leb}
@@ -17,8 +17,10 @@ use Rattle.reflection.specs.Outcome.{Outcome, ok, refused}
 use Rattle.reflection.specs.Reflection.{TypeNumbers, TypeDesc, typeDesc, Members, noMember, member, Rd11, noRd11, rd11, ResourceBinding, CBufferVariable, CBufferDef, ResourceDef, isSm5, isWide}
 pub use Rattle.reflection.specs.Reflection.{majorOf}
 pub use Rattle.reflection.specs.Strides.{bindingStride, variableStride, typeStride}
-use Rattle.reflection.specs.Limits.{typeLevels}
-use Rattle.reflection.specs.Refusals.{badInputType, badDimension, badBindingFlags}
+use Rattle.reflection.specs.Strides.{headerSize, rd11HeaderSize, bufferStride, memberStride}
+use Rattle.reflection.specs.Rd11.{rd11Allowed}
+use Rattle.reflection.specs.Limits.{typeLevels, chunkLimit}
+use Rattle.reflection.specs.Refusals.{chunkTooShort, chunkTooLong, badVersion, badCreator, rd11Missing, badRd11, recordPastEnd, badInputType, badDimension, badBindingFlags, badName, defaultPastEnd, typeTooDeep, typeCycle}
 use Rattle.reading.specs.Step.{Room, Step, _>>=_, return, refuse, check, textOr, takeBinding, takeBuffer, takeVariable, takeType}
 
 -- A word that only the longer record has; 0 in the other.
@@ -39,14 +41,14 @@ unfoldable pub onPath : ℕ → List ℕ → Bool
 onPath at [] = false
 onPath at (x ∷ xs) = eqb at x || onPath at xs
 
--- n members: each a record of 12 bytes, its name, then its type, which `readType` reads.
+-- n members: each a record, its name, then its type, which `readType` reads.
 unfoldable pub readMembers : (ℕ → Step (TypeDesc Text)) → List ℕ → ℕ → ℕ → Step (Members Text)
 readMembers readType s zero at = return noMember
 readMembers readType s (suc n) at = do
-  _ ← check (inside (length s) at 12) 7
-  name ← textOr 11 (cstringAt s (wordAt s at))
+  _ ← check (inside (length s) at memberStride) recordPastEnd
+  name ← textOr badName (cstringAt s (wordAt s at))
   type ← readType (wordAt s (at + 4))
-  others ← readMembers readType s n (at + 12)
+  others ← readMembers readType s n (at + memberStride)
   return (member name (wordAt s (at + 8)) type others)
 
 -- A string whose offset 0 means empty, at place 0.
@@ -75,13 +77,13 @@ numbersFrom s sm5 at = record {
 
 -- The type at an offset, with so many levels left below the descriptors on `path`: depth, path, room, range, members, name.
 unfoldable pub readType : List ℕ → Bool → ℕ → List ℕ → ℕ → Step (TypeDesc Text)
-readType s sm5 zero path at = refuse 13
+readType s sm5 zero path at = refuse typeTooDeep
 readType s sm5 (suc levels) path at = do
-  _ ← check (not (onPath at path)) 14
+  _ ← check (not (onPath at path)) typeCycle
   _ ← takeType
-  _ ← check (inside (length s) at (typeStride sm5)) 7
+  _ ← check (inside (length s) at (typeStride sm5)) recordPastEnd
   members ← readMembers (λ below. readType s sm5 levels (at ∷ path) below) s (highAt s (at + 8)) (wordAt s (at + 12))
-  name ← textOr 11 (typeNameAt s sm5 at)
+  name ← textOr badName (typeNameAt s sm5 at)
   return (typeDesc (numbersFrom s sm5 at) name members)
 
 -- A default: offset 0 means empty, at place 0; any other, and it plus the variable's size, must not pass the chunk's end.
@@ -108,9 +110,9 @@ variableFrom s sm5 at name default type = record {
 unfoldable pub readVariable : List ℕ → Bool → ℕ → Step (CBufferVariable Text Text)
 readVariable s sm5 at = do
   _ ← takeVariable
-  _ ← check (inside (length s) at (variableStride sm5)) 7
-  default ← textOr 12 (defaultAt s (wordAt s (at + 20)) (wordAt s (at + 8)))
-  name ← textOr 11 (cstringAt s (wordAt s at))
+  _ ← check (inside (length s) at (variableStride sm5)) recordPastEnd
+  default ← textOr defaultPastEnd (defaultAt s (wordAt s (at + 20)) (wordAt s (at + 8)))
+  name ← textOr badName (cstringAt s (wordAt s at))
   type ← readType s sm5 typeLevels [] (wordAt s (at + 16))
   return (variableFrom s sm5 at name default type)
 
@@ -118,13 +120,13 @@ readVariable s sm5 at = do
 unfoldable pub bufferFrom : List ℕ → ℕ → Text → List (CBufferVariable Text Text) → CBufferDef Text Text
 bufferFrom s at name variables = record { name = name; size = wordAt s (at + 12); flags = wordAt s (at + 16); cb-type = wordAt s (at + 20); variables = variables }
 
--- A buffer of 24 bytes: room, record, its variables, then its name.
+-- A buffer: room, record, its variables, then its name.
 unfoldable pub readBuffer : List ℕ → Bool → ℕ → Step (CBufferDef Text Text)
 readBuffer s sm5 at = do
   _ ← takeBuffer
-  _ ← check (inside (length s) at 24) 7
+  _ ← check (inside (length s) at bufferStride) recordPastEnd
   variables ← readMany (readVariable s sm5) (variableStride sm5) (wordAt s (at + 4)) (wordAt s (at + 8))
-  name ← textOr 11 (cstringAt s (wordAt s at))
+  name ← textOr badName (cstringAt s (wordAt s at))
   return (bufferFrom s at name variables)
 
 -- What a binding's record says; only the longer one has space and id.
@@ -146,46 +148,38 @@ bindingFrom s wide at name = record {
 unfoldable pub readBinding : List ℕ → Bool → ℕ → Step (ResourceBinding Text)
 readBinding s wide at = do
   _ ← takeBinding
-  _ ← check (inside (length s) at (bindingStride wide)) 7
+  _ ← check (inside (length s) at (bindingStride wide)) recordPastEnd
   _ ← check (known inputTypes (wordAt s (at + 4))) badInputType
   _ ← check (known srvDimensions (wordAt s (at + 12))) badDimension
   _ ← check (bindingFlagsAllowed (wordAt s (at + 28))) badBindingFlags
-  name ← textOr 11 (cstringAt s (wordAt s at))
+  name ← textOr badName (cstringAt s (wordAt s at))
   return (bindingFrom s wide at name)
 
--- The RD11 words that are allowed: identifier "RD11" or 0x25441313; header 60; buffer stride 24; binding stride 32 or 40; variable stride 40;
--- type stride 36; member stride 12; the interface slots are free. Either identifier goes with either binding stride.
-unfoldable pub rd11Allowed : List ℕ → Bool
-rd11Allowed s =
-    (eqb (wordAt s 28) 0x31314452 || eqb (wordAt s 28) 0x25441313)
-    && (eqb (wordAt s 32) 60
-    && (eqb (wordAt s 36) 24
-    && ((eqb (wordAt s 40) 32 || eqb (wordAt s 40) 40)
-    && (eqb (wordAt s 44) 40
-    && (eqb (wordAt s 48) 36
-    && eqb (wordAt s 52) 12)))))
+-- Whether the RD11 words are allowed: the identifier and the six sizes, which follow the header's first seven words.
+abbrev pub chunkRd11Allowed : List ℕ → Bool
+chunkRd11Allowed s = rd11Allowed (wordAt s 28) (wordAt s 32) (wordAt s 36) (wordAt s 40) (wordAt s 44) (wordAt s 48) (wordAt s 52)
 
 unfoldable pub readRd11 : List ℕ → Bool → Step Rd11
 readRd11 s false = return noRd11
 readRd11 s true = do
-  _ ← check (leb 60 (length s)) 5
-  _ ← check (rd11Allowed s) 6
+  _ ← check (leb rd11HeaderSize (length s)) rd11Missing
+  _ ← check (chunkRd11Allowed s) badRd11
   return (rd11 (wordAt s 28) (wordAt s 40) (wordAt s 56))
 
 -- What follows the header: the bindings, then the buffers.
 unfoldable pub readTables : List ℕ → Text → Rd11 → Step (ResourceDef Text Text)
 readTables s creator words = do
   bindings ← readMany (readBinding s (isWide words)) (bindingStride (isWide words)) (wordAt s 8) (wordAt s 12)
-  buffers ← readMany (readBuffer s (isSm5 words)) 24 (wordAt s 0) (wordAt s 4)
+  buffers ← readMany (readBuffer s (isSm5 words)) bufferStride (wordAt s 0) (wordAt s 4)
   return (record { target-version = wordAt s 16; compile-flags = wordAt s 20; rd11 = words; creator = creator; bindings = bindings; constant-buffers = buffers })
 
 -- The chunk: its length, the major version, the creator, the RD11 words of major 5, the tables.
 unfoldable pub readChunk : List ℕ → Step (ResourceDef Text Text)
 readChunk s = do
-  _ ← check (leb 28 (length s)) 1
-  _ ← check (leb (length s) 65536) 2
-  _ ← check (eqb (majorOf (wordAt s 16)) 4 || eqb (majorOf (wordAt s 16)) 5) 3
-  creator ← textOr 4 (cstringAt s (wordAt s 24))
+  _ ← check (leb headerSize (length s)) chunkTooShort
+  _ ← check (leb (length s) chunkLimit) chunkTooLong
+  _ ← check (eqb (majorOf (wordAt s 16)) 4 || eqb (majorOf (wordAt s 16)) 5) badVersion
+  creator ← textOr badCreator (cstringAt s (wordAt s 24))
   words ← readRd11 s (eqb (majorOf (wordAt s 16)) 5)
   readTables s creator words
 

@@ -6,7 +6,8 @@ use Rattle.text.specs.declared.Found.the-variants.{At, Bad}
 use Rattle.reflection.specs.declared.Text.{Text}
 use Rattle.reflection.specs.Outcome.{Outcome, ok, refused, because}
 use Rattle.reflection.specs.Texts.{inChunk}
-use Rattle.reflection.specs.Records.{bindingWidth, bufferWidth, variableWidth, typeWidth}
+use Rattle.reflection.specs.Limits.{bindingRoom, bufferRoom, variableRoom, typeRoom, bindingWidth, bufferWidth, variableWidth, typeWidth}
+use Rattle.reflection.specs.Refusals.{noRoom}
 
 -- How many records each table can still take.
 pub record Room : Type 0 where
@@ -20,11 +21,12 @@ room b f v t = record { bindings = b; buffers = f; variables = v; types = t }
 
 -- Document 01, "Room".
 abbrev pub fullRoom : Room
-fullRoom = room 1024 64 2048 4096
+fullRoom = room bindingRoom bufferRoom variableRoom typeRoom
 
 -- The room of tables of that many words: whole records, at most document 01's room.
 unfoldable pub roomOf : ℕ → ℕ → ℕ → ℕ → Room
-roomOf b f v t = room (min (b / bindingWidth) 1024) (min (f / bufferWidth) 64) (min (v / variableWidth) 2048) (min (t / typeWidth) 4096)
+roomOf b f v t =
+    room (min (b / bindingWidth) bindingRoom) (min (f / bufferWidth) bufferRoom) (min (v / variableWidth) variableRoom) (min (t / typeWidth) typeRoom)
 
 abbrev pub Step : Type 0 → Type 0
 Step A = Room → Outcome (A × Room)
@@ -53,9 +55,9 @@ unfoldable pub textOr : ℕ → Found → Step Text
 textOr n (At place k) = return (inChunk place k)
 textOr n Bad = refuse n
 
--- One record less; 15 where none is left.
+-- One record less; a refusal where none is left.
 abbrev pub oneLess : ℕ → (ℕ → Room) → Outcome (Unit {0} × Room)
-oneLess zero left = refused (because 15)
+oneLess zero left = refused (because noRoom)
 oneLess (suc n) left = ok (tt, left n)
 
 unfoldable pub takeBinding : Step (Unit {0})

@@ -54,27 +54,28 @@ header version stride buffers variables types = record {
   «type_count» = types;
 }
 
-abbrev pub bufferTable : List ℕ
-bufferTable = 0 ∷ 52 ∷ 8 ∷ 1 ∷ 16 ∷ 0 ∷ 0 ∷ []
+abbrev pub oneBuffer : List ℕ
+oneBuffer = 0 ∷ 52 ∷ 8 ∷ 1 ∷ 16 ∷ 0 ∷ 0 ∷ []
 
 -- Two records of variables, the second a copy of the first.
-abbrev pub variableTable : List ℕ
-variableTable = 0 ∷ 88 ∷ 1 ∷ 0 ∷ 4 ∷ 2 ∷ 0 ∷ 0 ∷ 0 ∷ 0 ∷ 0 ∷ 0 ∷ 0 ∷ 0 ∷ 88 ∷ 1 ∷ 0 ∷ 4 ∷ 2 ∷ 0 ∷ 0 ∷ 0 ∷ 0 ∷ 0 ∷ 0 ∷ 0 ∷ []
+abbrev pub twoVariables : List ℕ
+twoVariables = 0 ∷ 88 ∷ 1 ∷ 0 ∷ 4 ∷ 2 ∷ 0 ∷ 0 ∷ 0 ∷ 0 ∷ 0 ∷ 0 ∷ 0 ∷ 0 ∷ 88 ∷ 1 ∷ 0 ∷ 4 ∷ 2 ∷ 0 ∷ 0 ∷ 0 ∷ 0 ∷ 0 ∷ 0 ∷ 0 ∷ []
 
 -- Two nodes, each a float; what the root's node says of a member, 7 from place 9 on at offset 5, is not looked at.
-abbrev pub typeTable : List ℕ
-typeTable =
+abbrev pub twoNodes : List ℕ
+twoNodes =
     0 ∷ 3 ∷ 1 ∷ 1 ∷ 0 ∷ 0 ∷ 0 ∷ 0 ∷ 0 ∷ 0 ∷ 0 ∷ 0 ∷ 0 ∷ 0 ∷ 9 ∷ 7 ∷ 5
     ∷ 0 ∷ 3 ∷ 1 ∷ 1 ∷ 0 ∷ 0 ∷ 0 ∷ 0 ∷ 0 ∷ 0 ∷ 0 ∷ 0 ∷ 0 ∷ 0 ∷ 0 ∷ 0 ∷ 0 ∷ []
 
 abbrev pub from : Header → Option (ResourceDef Text Text)
-from h = decode h [] bufferTable variableTable typeTable
+from h = decode h [] oneBuffer twoVariables twoNodes
 
--- What the four tables hold under a header: of major 4, of major 5; and `none` with a node left over, a variable left over, no type for the variable,
+-- What the four tables hold under a header: of major 4, of major 5, of another major; and `none` with a node left over, a variable left over, no type for the variable,
 -- no variable for the buffer, one buffer more than the table holds.
 pub record Decoded : Type 0 where
   pub major-4 : from (header 1024 0 1 1 1) ≡ some (caseV 1024 noRd11)
   pub major-5 : from (header 1280 32 1 1 1) ≡ some (caseV 1280 (rd11 0 32 0))
+  pub major-3 : from (header 768 32 1 1 1) ≡ some (caseV 768 noRd11)
   pub node-left : from (header 1024 0 1 1 2) ≡ none
   pub variable-left : from (header 1024 0 1 2 2) ≡ none
   pub type-missing : from (header 1024 0 1 1 0) ≡ none
@@ -83,4 +84,4 @@ pub record Decoded : Type 0 where
 
 pub cases : Decoded
 unfolding decode firstRecords recordsFrom check variablesFrom buffersFrom rd11From typeFrom membersFrom _>>=_ variableFrom bufferFrom nodeFrom bufferAt variableAt typeAt recordWord holdsRecord
-cases = record { major-4 = refl; major-5 = refl; node-left = refl; variable-left = refl; type-missing = refl; variable-missing = refl; buffer-missing = refl }
+cases = record { major-4 = refl; major-5 = refl; major-3 = refl; node-left = refl; variable-left = refl; type-missing = refl; variable-missing = refl; buffer-missing = refl }

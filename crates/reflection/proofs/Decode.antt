@@ -135,15 +135,15 @@ buffers-back (b ∷ bs) =
     (then-some _ (ap (buffersFrom (map bufferRecord bs)) (drop-append-seam own others) ∙ buffers-back bs)
     (ap (λ vs. some (bufferFrom (bufferRecord b) vs ∷ bs)) (take-append-seam own others)))
 
--- The RD11 words that a reflection of this major has: none for major 4, and their own three words for another. Those of its header are these.
+-- The RD11 words that a reflection has: their own three words for major 5, none for another. Those of its header are these.
 abbrev pub rd11Of : Bool → Rd11 → Rd11
-rd11Of true words = noRd11
-rd11Of false words = rd11 (identifierOf words) (strideOf words) (slotsOf words)
+rd11Of true words = rd11 (identifierOf words) (strideOf words) (slotsOf words)
+rd11Of false words = noRd11
 
-pub rd11-of-header : (d : ResourceDef Text Text) (four : Bool) → eqb (majorOf (d .target-version)) 4 ≡ four → rd11From (headerOf d) ≡ rd11Of four (d .rd11)
+pub rd11-of-header : (d : ResourceDef Text Text) (sm5 : Bool) → eqb (majorOf (d .target-version)) 5 ≡ sm5 → rd11From (headerOf d) ≡ rd11Of sm5 (d .rd11)
 unfolding rd11From headerOf
-rd11-of-header d true is-four = rw (rd11From, is-four)
-rd11-of-header d false is-four = rw (rd11From, is-four)
+rd11-of-header d true is-sm5 = rw (rd11From, is-sm5)
+rd11-of-header d false is-sm5 = rw (rd11From, is-sm5)
 
 module _ (r : ResourceDef Text Text) (nb nf nv nt : ℕ) (fits : TypesFit (allVariables (r .constant-buffers))) (words : r .rd11 ≡ rd11From (headerOf r)) where
   -- Decoding undoes encoding, whatever the roots' nodes say of a member.

@@ -106,12 +106,12 @@ buffersFrom (b ∷ bs) vs = do
   others ← buffersFrom bs (drop (b .«variable_count») vs)
   some (bufferFrom b (take (b .«variable_count») vs) ∷ others)
 
--- The RD11 words; major 4 has none.
+-- The RD11 words, which major 5 has and no other.
 unfoldable pub rd11From : Header → Rd11
 rd11From h =
-    elim (eqb (majorOf (h .«target_version»)) 4) [
-      | true ↦ noRd11
-      | false ↦ rd11 (h .rd11 .identifier) (h .rd11 .«resource_binding_stride») (h .rd11 .«interface_slot_count»)
+    elim (eqb (majorOf (h .«target_version»)) 5) [
+      | true ↦ rd11 (h .rd11 .identifier) (h .rd11 .«resource_binding_stride») (h .rd11 .«interface_slot_count»)
+      | false ↦ noRd11
     ]
 
 -- The reflection that a header and the words of the bindings', buffers', variables' and types' tables hold.

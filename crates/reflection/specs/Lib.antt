@@ -1,5 +1,6 @@
 pub mod Limits
 pub mod Strides
+pub mod Rd11
 pub mod Refusals
 pub mod Outcome
 pub mod Reflection

@@ -4,6 +4,7 @@ use mathlib.Core.Bool.{Bool, true, false}
 use mathlib.Core.List.{List, [], _∷_, _++_, map}
 use Prim.Native.Nat.{ℕ, zero, suc, _/_, _%_}
 use lib.Dec.{eqb}
+use Rattle.reflection.specs.Strides.{bindingStride}
 
 -- The numbers of a type descriptor (`TypeDesc`); `extra` is what major 5 adds, 0 for major 4.
 pub record TypeNumbers : Type 0 where
@@ -79,14 +80,14 @@ pub record ResourceDef (N D : Type 0) : Type 0 where
 abbrev pub majorOf : ℕ → ℕ
 majorOf version = version / 256 % 256
 
--- Whether the chunk is of major 5, and whether its binding records have space and id (stride 40).
+-- Whether the chunk is of major 5, and whether its binding records have space and id.
 abbrev pub isSm5 : Rd11 → Bool
 isSm5 noRd11 = false
 isSm5 (rd11 identifier stride slots) = true
 
 abbrev pub isWide : Rd11 → Bool
 isWide noRd11 = false
-isWide (rd11 identifier stride slots) = eqb stride 40
+isWide (rd11 identifier stride slots) = eqb stride (bindingStride true)
 
 -- The three words as numbers; 0 for major 4.
 abbrev pub identifierOf : Rd11 → ℕ

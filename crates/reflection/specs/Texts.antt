@@ -8,6 +8,7 @@ use Rattle.words.specs.Parts.{inside, part}
 use Rattle.reflection.specs.declared.Text.{Text}
 use Rattle.reflection.specs.declared.NamePlace.{NamePlace}
 use Rattle.reflection.specs.declared.NamePlace.the-variants.{InPlace, Refused}
+use Rattle.reflection.specs.Refusals.{notReadable}
 use Rattle.reflection.specs.Outcome.{because}
 
 -- A text in the chunk; an empty text "at place 0" is `inChunk 0 0`.
@@ -30,7 +31,7 @@ textBytes chunk edits t =
       | false ↦ elim (eqb (t .source) 1) [ true ↦ part edits (t .place) (t .length) | false ↦ [] ]
     ]
 
--- What the call beside a name says: the name is in place, or 16.
+-- What the call beside a name says: the name is in place, or refused.
 abbrev pub namePlace : Bool → NamePlace
 namePlace true = InPlace
-namePlace false = Refused (because 16)
+namePlace false = Refused (because notReadable)

@@ -10,10 +10,11 @@ use lib.ListN.{length, getD, length-map}
 use Rattle.words.specs.Words.{wordAt}
 use Rattle.text.proofs.Bools.{and-true}
 use Rattle.reflection.specs.Limits.{chunkLimit, bindingRoom, bufferRoom}
-use Rattle.reflection.specs.Strides.{rd11HeaderSize, bindingStride, bufferStride, variableStride, typeStride, memberStride, rd11Identifier, sm51Identifier}
+use Rattle.reflection.specs.Strides.{rd11HeaderSize, bufferStride, variableStride, typeStride, memberStride}
+use Rattle.reflection.specs.Rd11.{rd11Allowed}
 use Rattle.reflection.specs.Reflection.{Rd11, noRd11, rd11, ResourceDef, majorOf, isSm5, isWide, identifierOf, strideOf, slotsOf}
 use Rattle.reflection.specs.Contents.{Bytes}
-use Rattle.reading.specs.Read.{rd11Allowed, readRd11}
+use Rattle.reading.specs.Read.{chunkRd11Allowed, readRd11}
 use Rattle.readable.specs.Readable.{versionReadable, roomKept}
 use Rattle.writing.specs.Step.{Cell}
 use Rattle.writing.specs.Records.{rd11Words, BodyOffsets, headerWords, headerSize}
@@ -92,21 +93,13 @@ unfolding versionReadable
 major-five noRd11 version e = ap (λ (m : ℕ). eqb m 5) (eqb-true (majorOf version) 4 e)
 major-five (rd11 identifier stride slots) version e = and-true (eqb (majorOf version) 5) _ e .0
 
-and-both : (a b : Bool) → a ≡ true → b ≡ true → (a && b) ≡ true
-and-both true b p q = q
-and-both false b p q = p
-
 -- The test for the RD11 words that are allowed, of words with the strides that are written.
-rd11-allowed : (s : Bytes) (version identifier stride slots : ℕ) → versionReadable version (rd11 identifier stride slots) ≡ true → wordAt s 28 ≡ identifier → wordAt s 32 ≡ rd11HeaderSize
-    → wordAt s 36 ≡ bufferStride → wordAt s 40 ≡ stride → wordAt s 44 ≡ variableStride true → wordAt s 48 ≡ typeStride true → wordAt s 52 ≡ memberStride → rd11Allowed s ≡ true
-unfolding rd11Allowed versionReadable
+rd11-allowed : (s : Bytes) (version identifier stride slots : ℕ) → versionReadable version (rd11 identifier stride slots) ≡ true → wordAt s 28 ≡ identifier
+    → wordAt s 32 ≡ rd11HeaderSize → wordAt s 36 ≡ bufferStride → wordAt s 40 ≡ stride → wordAt s 44 ≡ variableStride true → wordAt s 48 ≡ typeStride true → wordAt s 52 ≡ memberStride
+    → chunkRd11Allowed s ≡ true
+unfolding versionReadable
 rd11-allowed s version identifier stride slots fine w₂₈ w₃₂ w₃₆ w₄₀ w₄₄ w₄₈ w₅₂ =
-    let (_, both) = and-true (eqb (majorOf version) 5) _ fine in
-    let (identifiers, strides) = and-true (eqb identifier rd11Identifier || eqb identifier sm51Identifier) (eqb stride (bindingStride false) || eqb stride (bindingStride true)) both in
-    (λ i. (eqb (w₂₈ i) rd11Identifier || eqb (w₂₈ i) sm51Identifier)
-    && (eqb (w₃₂ i) rd11HeaderSize && (eqb (w₃₆ i) bufferStride && ((eqb (w₄₀ i) (bindingStride false) || eqb (w₄₀ i) (bindingStride true))
-    && (eqb (w₄₄ i) (variableStride true) && (eqb (w₄₈ i) (typeStride true) && eqb (w₅₂ i) memberStride))))))
-    ∙ and-both _ _ identifiers (and-both _ _ strides refl)
+    (λ i. rd11Allowed (w₂₈ i) (w₃₂ i) (w₃₆ i) (w₄₀ i) (w₄₄ i) (w₄₈ i) (w₅₂ i)) ∙ and-true (eqb (majorOf version) 5) _ fine .1
 
 -- The RD11 words, which stand after the header's first seven.
 pub rd11-read : (cells : List (Cell Bytes Bytes)) (words : Rd11) (version a b c d e f g : ℕ) → versionReadable version words ≡ true

@@ -151,15 +151,15 @@ first-records P width record-at t n xs each e =
 rd11-words : (h : Header) → HeaderWords h
     → Words (h .«target_version» ∷ h .«compile_flags» ∷ identifierOf (rd11From h) ∷ strideOf (rd11From h) ∷ slotsOf (rd11From h) ∷ [])
 unfolding rd11From Words
-rd11-words h w = go (eqb (majorOf (h .«target_version»)) 4)
+rd11-words h w = go (eqb (majorOf (h .«target_version»)) 5)
   where
-    go : (four : Bool)
+    go : (five : Bool)
         → Words (h .«target_version» ∷ h .«compile_flags»
-        ∷ identifierOf (elim four [ true ↦ noRd11 | false ↦ rd11 (h .rd11 .identifier) (h .rd11 .«resource_binding_stride») (h .rd11 .«interface_slot_count») ])
-        ∷ strideOf (elim four [ true ↦ noRd11 | false ↦ rd11 (h .rd11 .identifier) (h .rd11 .«resource_binding_stride») (h .rd11 .«interface_slot_count») ])
-        ∷ slotsOf (elim four [ true ↦ noRd11 | false ↦ rd11 (h .rd11 .identifier) (h .rd11 .«resource_binding_stride») (h .rd11 .«interface_slot_count») ]) ∷ [])
-    go true = (w .0, (w .1 .0, (omega arith, (omega arith, (omega arith, tt)))))
-    go false = w
+        ∷ identifierOf (elim five [ true ↦ rd11 (h .rd11 .identifier) (h .rd11 .«resource_binding_stride») (h .rd11 .«interface_slot_count») | false ↦ noRd11 ])
+        ∷ strideOf (elim five [ true ↦ rd11 (h .rd11 .identifier) (h .rd11 .«resource_binding_stride») (h .rd11 .«interface_slot_count») | false ↦ noRd11 ])
+        ∷ slotsOf (elim five [ true ↦ rd11 (h .rd11 .identifier) (h .rd11 .«resource_binding_stride») (h .rd11 .«interface_slot_count») | false ↦ noRd11 ]) ∷ [])
+    go true = w
+    go false = (w .0, (w .1 .0, (omega arith, (omega arith, (omega arith, tt)))))
 
 -- What tables of words decode to.
 pub decode-words : (h : Header) (bindings buffers variables types : List ℕ) → HeaderWords h → WordTable bindings → WordTable buffers → WordTable variables → WordTable types

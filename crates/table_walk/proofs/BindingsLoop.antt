@@ -9,6 +9,8 @@ use Rattle.words.specs.Words.{wordAt}
 use Rattle.words.specs.Parts.{inside}
 use Rattle.text.specs.declared.Found.the-variants.{At, Bad}
 use Rattle.text.specs.Strings.{cstringAt}
+use Rattle.reflection.specs.Limits.{bindingWidth}
+use Rattle.reflection.specs.Refusals.{recordPastEnd, badName, noRoom}
 use Rattle.reflection.specs.declared.Text.{Text}
 use Rattle.reflection.specs.declared.ResourceBinding.{ResourceBinding}
 use Rattle.reflection.specs.declared.Refusal.{Refusal}
@@ -29,7 +31,7 @@ use Rattle.table_walk.proofs.OneBinding.{binding-full, binding-short, b
 -- The loop's invariant: `next` bindings stand in the table, and `left` are left, from `at` on.
 pub record BindingsLeft (s : List ℕ) (wide : Bool) (first count capacity : ℕ) (table₀ table : List ℕ) (next at left : ℕ) : Type 0 where
   pub same : (f v t : ℕ) → bindingsProgress s wide count first [] (room capacity f v t)
-      ≡ bindingsProgress s wide left at (take (next * 12) table) (room (capacity - next) f v t)
+      ≡ bindingsProgress s wide left at (take (next * bindingWidth) table) (room (capacity - next) f v t)
   pub grew : Grew capacity 0 next
   pub long : length table ≡ length table₀
 
@@ -48,26 +50,26 @@ module _ {s : List ℕ} {wide : Bool} {first count capacity : ℕ} {table₀ tab
   pub ends : left ≤ 0 → result table (Next next)
   unfolding bindingsProgress
   ends none = record {
-    outcome = λ f v t. so-far .same f v t ∙ many-none appendBinding (readBinding s wide) (bindingStride wide) left at (take (next * 12) table) (room (capacity - next) f v t) none;
+    outcome = λ f v t. so-far .same f v t ∙ many-none appendBinding (readBinding s wide) (bindingStride wide) left at (take (next * bindingWidth) table) (room (capacity - next) f v t) none;
     grew = so-far .grew;
   }
 
   module _ (some : 0 < left) where
     abbrev one : ℕ → ℕ → ℕ → ℕ → Progress (List ℕ)
-    one b f v t = progress appendBinding (readBinding s wide at (room b f v t)) (take (next * 12) table)
+    one b f v t = progress appendBinding (readBinding s wide at (room b f v t)) (take (next * bindingWidth) table)
 
     stops : {e : Refusal} (b : ℕ) → capacity - next ≡ b → ((f v t : ℕ) → one b f v t ≡ stopped e) → result table (Refused e)
     unfolding bindingsProgress
     stops b free refusal = record {
       outcome = λ f v t.
           so-far .same f v t
-          ∙ many-stopped appendBinding (readBinding s wide) (bindingStride wide) left at (take (next * 12) table) (room (capacity - next) f v t) some
+          ∙ many-stopped appendBinding (readBinding s wide) (bindingStride wide) left at (take (next * bindingWidth) table) (room (capacity - next) f v t) some
           (ap (λ (k : ℕ). one k f v t) free ∙ refusal f v t);
       grew = tt;
     }
 
-    pub ends-full : capacity ≤ next → result table (Refused (because 15))
-    ends-full full = stops 0 (omega arith) (λ f v t. binding-full s wide at (take (next * 12) table) f v t)
+    pub ends-full : capacity ≤ next → result table (Refused (because noRoom))
+    ends-full full = stops 0 (omega arith) (λ f v t. binding-full s wide at (take (next * bindingWidth) table) f v t)
 
     module _ (free : next < capacity) where
       abbrev after : ℕ
@@ -76,36 +78,36 @@ module _ {s : List ℕ} {wide : Bool} {first count capacity : ℕ} {table₀ tab
       one-less : capacity - next ≡ suc after
       one-less = omega arith
 
-      pub ends-short : inside (length s) at (bindingStride wide) ≡ false → result table (Refused (because 7))
-      ends-short short = stops (suc after) one-less (λ f v t. binding-short s wide at (take (next * 12) table) f v t after short)
+      pub ends-short : inside (length s) at (bindingStride wide) ≡ false → result table (Refused (because recordPastEnd))
+      ends-short short = stops (suc after) one-less (λ f v t. binding-short s wide at (take (next * bindingWidth) table) f v t after short)
 
       module _ (fits : inside (length s) at (bindingStride wide) ≡ true) where
         pub ends-coded-wrong : (e : ℕ) → e ≡ codeFault s at → 0 < e → result table (Refused (because e))
-        ends-coded-wrong e is fault = stops (suc after) one-less (λ f v t. binding-coded-wrong s wide at (take (next * 12) table) f v t after fits e is fault)
+        ends-coded-wrong e is fault = stops (suc after) one-less (λ f v t. binding-coded-wrong s wide at (take (next * bindingWidth) table) f v t after fits e is fault)
 
         module _ (codes : codeFault s at ≤ 0) where
-          pub ends-named-badly : cstringAt s (wordAt s at) ≡ Bad → result table (Refused (because 11))
-          ends-named-badly bad = stops (suc after) one-less (λ f v t. binding-named-badly s wide at (take (next * 12) table) f v t after fits codes bad)
+          pub ends-named-badly : cstringAt s (wordAt s at) ≡ Bad → result table (Refused (because badName))
+          ends-named-badly bad = stops (suc after) one-less (λ f v t. binding-named-badly s wide at (take (next * bindingWidth) table) f v t after fits codes bad)
 
           pub goes-on : {place n : ℕ} → cstringAt s (wordAt s at) ≡ At place n
               → {name : Text} → name ≡ inChunk place n → {binding : ResourceBinding} → binding ≡ bindingRecord (bindingFrom s wide at name)
-              → {table₁ : List ℕ} → table₁ ≡ putRecord 12 table next (bindingWords binding) → length table₁ ≡ length table
+              → {table₁ : List ℕ} → table₁ ≡ putRecord bindingWidth table next (bindingWords binding) → length table₁ ≡ length table
               → (stride : ℕ) → stride ≡ bindingStride wide → BindingsLeft s wide first count capacity table₀ table₁ (next + 1) (at + stride) (left - 1)
           unfolding bindingsProgress bindingWords
           goes-on {place} {n} found {name} is-name {binding} is {table₁} put long stride is-stride =
               let words : Text → List ℕ = λ (x : Text). bindingWords (bindingRecord (bindingFrom s wide at x)) in
-              let in-table : next < length table / 12 = omega (arith, ready .fits, so-far .long) in
-              let taken : take ((next + 1) * 12) table₁ ≡ take (next * 12) table ++ words (inChunk place n) =
-              ap (take ((next + 1) * 12)) (put ∙ ap (λ (x : ResourceBinding). putRecord 12 table next (bindingWords x)) is)
-              ∙ record-appended 12 table next (words name) in-table refl
-              ∙ ap (λ (x : Text). take (next * 12) table ++ words x) is-name in
+              let in-table : next < length table / bindingWidth = omega (arith, ready .fits, so-far .long) in
+              let taken : take ((next + 1) * bindingWidth) table₁ ≡ take (next * bindingWidth) table ++ words (inChunk place n) =
+              ap (take ((next + 1) * bindingWidth)) (put ∙ ap (λ (x : ResourceBinding). putRecord bindingWidth table next (bindingWords x)) is)
+              ∙ record-appended bindingWidth table next (words name) in-table refl
+              ∙ ap (λ (x : Text). take (next * bindingWidth) table ++ words x) is-name in
               record {
                 same = λ f v t.
                     so-far .same f v t
-                    ∙ many-further appendBinding (readBinding s wide) (bindingStride wide) left at (take (next * 12) table) (room (capacity - next) f v t) some
-                    (ap (λ (k : ℕ). one k f v t) one-less ∙ binding-read s wide at (take (next * 12) table) f v t after fits codes place n found)
+                    ∙ many-further appendBinding (readBinding s wide) (bindingStride wide) left at (take (next * bindingWidth) table) (room (capacity - next) f v t) some
+                    (ap (λ (k : ℕ). one k f v t) one-less ∙ binding-read s wide at (take (next * bindingWidth) table) f v t after fits codes place n found)
                     ∙ ap (λ (w : List ℕ). bindingsProgress s wide (left - 1) (at + bindingStride wide) w (room after f v t)) (sym taken)
-                    ∙ ap (λ (k : ℕ). bindingsProgress s wide (left - 1) (at + k) (take ((next + 1) * 12) table₁) (room after f v t)) (sym is-stride);
+                    ∙ ap (λ (k : ℕ). bindingsProgress s wide (left - 1) (at + k) (take ((next + 1) * bindingWidth) table₁) (room after f v t)) (sym is-stride);
                 grew = record { low = omega arith; high = omega arith };
                 long = long ∙ so-far .long;
               }

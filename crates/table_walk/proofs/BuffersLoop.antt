@@ -10,6 +10,9 @@ use Rattle.words.specs.Parts.{inside}
 use Rattle.text.specs.declared.Found.{Found}
 use Rattle.text.specs.declared.Found.the-variants.{At, Bad}
 use Rattle.text.specs.Strings.{cstringAt}
+use Rattle.reflection.specs.Limits.{bufferWidth, variableWidth, typeWidth}
+use Rattle.reflection.specs.Strides.{bufferStride}
+use Rattle.reflection.specs.Refusals.{recordPastEnd, badName, noRoom}
 use Rattle.reflection.specs.declared.Text.{Text}
 use Rattle.reflection.specs.declared.CBufferDef.{CBufferDef}
 use Rattle.reflection.specs.declared.Refusal.{Refusal}
@@ -33,7 +36,7 @@ use Rattle.table_walk.proofs.OneBuffer.{ifNamed, buffer-full, buffer-sh
 pub record BuffersLeft (s : List ℕ) (sm5 : Bool) (first count fcap vcap tcap : ℕ) (buffers₀ variables₀ types₀ path₀ buffers variables types path : List ℕ)
     (next variable node at left : ℕ) : Type 0 where
   pub same : (b : ℕ) → buffersProgress s sm5 count first ([], ([], [])) (room b fcap vcap tcap)
-      ≡ buffersProgress s sm5 left at (take (next * 7) buffers, (take (variable * 13) variables, take (node * 17) types))
+      ≡ buffersProgress s sm5 left at (take (next * bufferWidth) buffers, (take (variable * variableWidth) variables, take (node * typeWidth) types))
       (room b (fcap - next) (vcap - variable) (tcap - node))
   pub grew : Grew fcap 0 next
   pub grew-variables : Grew vcap 0 variable
@@ -67,12 +70,12 @@ module _ {s : List ℕ} {sm5 : Bool} {first count fcap vcap tcap : ℕ} {buffers
   result buffers′ variables′ types′ r = WalkedBuffers (buffersProgress s sm5 count first) fcap vcap tcap buffers′ variables′ types′ r
 
   abbrev written : Words
-  written = (take (next * 7) buffers, (take (variable * 13) variables, take (node * 17) types))
+  written = (take (next * bufferWidth) buffers, (take (variable * variableWidth) variables, take (node * typeWidth) types))
 
   pub ends : left ≤ 0 → result buffers variables types (Filled next variable node)
   unfolding buffersProgress
   ends none = record {
-    outcome = λ b. so-far .same b ∙ many-none appendBuffer (readBuffer s sm5) 24 left at written (room b (fcap - next) (vcap - variable) (tcap - node)) none;
+    outcome = λ b. so-far .same b ∙ many-none appendBuffer (readBuffer s sm5) bufferStride left at written (room b (fcap - next) (vcap - variable) (tcap - node)) none;
     grew = (so-far .grew, (so-far .grew-variables, so-far .grew-types));
   }
 
@@ -97,11 +100,11 @@ module _ {s : List ℕ} {sm5 : Bool} {first count fcap vcap tcap : ℕ} {buffers
     stops k free refusal = record {
       outcome = λ b.
           so-far .same b
-          ∙ many-stopped appendBuffer (readBuffer s sm5) 24 left at written (room b (fcap - next) (vcap - variable) (tcap - node)) some (ap (one b) free ∙ refusal b);
+          ∙ many-stopped appendBuffer (readBuffer s sm5) bufferStride left at written (room b (fcap - next) (vcap - variable) (tcap - node)) some (ap (one b) free ∙ refusal b);
       grew = tt;
     }
 
-    pub ends-full : fcap ≤ next → result buffers variables types (Halted (because 15))
+    pub ends-full : fcap ≤ next → result buffers variables types (Halted (because noRoom))
     ends-full full = stops 0 (omega arith) (λ b. buffer-full s sm5 at written b (vcap - variable) (tcap - node))
 
     module _ (free : next < fcap) where
@@ -111,17 +114,17 @@ module _ {s : List ℕ} {sm5 : Bool} {first count fcap vcap tcap : ℕ} {buffers
       one-less : fcap - next ≡ suc after
       one-less = omega arith
 
-      pub ends-short : inside (length s) at 24 ≡ false → result buffers variables types (Halted (because 7))
+      pub ends-short : inside (length s) at bufferStride ≡ false → result buffers variables types (Halted (because recordPastEnd))
       ends-short short = stops (suc after) one-less (λ b. buffer-short s sm5 at written b (vcap - variable) (tcap - node) after short)
 
       -- its variables, `many` from `start` on, were walked
-      module _ (fits : inside (length s) at 24 ≡ true) {many start : ℕ} (is-many : many ≡ wordAt s (at + 4)) (is-start : start ≡ wordAt s (at + 8))
+      module _ (fits : inside (length s) at bufferStride ≡ true) {many start : ℕ} (is-many : many ≡ wordAt s (at + 4)) (is-start : start ≡ wordAt s (at + 8))
           (variables₁ types₁ : List ℕ) where
         abbrev walked : VariablesWalk → Type 0
         walked r = WalkedVariables (variablesProgress s sm5 many start) vcap tcap variable node variables variables₁ types types₁ r
 
         abbrev named : Found → Progress (List ℕ × List ℕ) → Progress Words
-        named found = onward (ifNamed s at (take (next * 7) buffers) found)
+        named found = onward (ifNamed s at (take (next * bufferWidth) buffers) found)
 
         abbrev variablesAt : ℕ → ℕ → ℕ → Progress (List ℕ × List ℕ)
         variablesAt n x b = variablesProgress s sm5 n x (written .1) (room b after (vcap - variable) (tcap - node))
@@ -140,30 +143,30 @@ module _ {s : List ℕ} {sm5 : Bool} {first count fcap vcap tcap : ℕ} {buffers
         ends-below e is-stopped walk = stops (suc after) one-less (filled (cstringAt s (wordAt s at)) refl (Stopped e) (subst walked is-stopped walk))
 
         module _ {r : VariablesWalk} {v n : ℕ} (is-ended : r ≡ Ended v n) (answer : walked r) where
-          pub ends-named-badly : cstringAt s (wordAt s at) ≡ Bad → result buffers variables₁ types₁ (Halted (because 11))
+          pub ends-named-badly : cstringAt s (wordAt s at) ≡ Bad → result buffers variables₁ types₁ (Halted (because badName))
           ends-named-badly bad = stops (suc after) one-less (filled Bad bad (Ended v n) (subst walked is-ended answer))
 
           pub goes-on : {place size : ℕ} → cstringAt s (wordAt s at) ≡ At place size
               → {name : Text} → name ≡ inChunk place size → {buffer : CBufferDef} → buffer ≡ bufferRow s at name
-              → {buffers₁ : List ℕ} → buffers₁ ≡ putRecord 7 buffers next (bufferWords buffer) → (path₁ : List ℕ)
+              → {buffers₁ : List ℕ} → buffers₁ ≡ putRecord bufferWidth buffers next (bufferWords buffer) → (path₁ : List ℕ)
               → length buffers₁ ≡ length buffers → length variables₁ ≡ length variables → length types₁ ≡ length types → length path₁ ≡ length path
-              → BuffersLeft s sm5 first count fcap vcap tcap buffers₀ variables₀ types₀ path₀ buffers₁ variables₁ types₁ path₁ (next + 1) v n (at + 24) (left - 1)
+              → BuffersLeft s sm5 first count fcap vcap tcap buffers₀ variables₀ types₀ path₀ buffers₁ variables₁ types₁ path₁ (next + 1) v n (at + bufferStride) (left - 1)
           unfolding buffersProgress bufferWords
           goes-on {place} {size} found {name} is-name {buffer} is {buffers₁} put path₁ long long-variables long-types long-path =
               let walk : walked (Ended v n) = subst walked is-ended answer in
               let words : Text → List ℕ = λ (x : Text). bufferWords (bufferRow s at x) in
-              let words₁ : List ℕ × List ℕ = (take (v * 13) variables₁, take (n * 17) types₁) in
-              let in-table : next < length buffers / 7 = omega (arith, ready .buffers-fit, so-far .long) in
-              let taken : take ((next + 1) * 7) buffers₁ ≡ take (next * 7) buffers ++ words (inChunk place size) =
-              ap (take ((next + 1) * 7)) (put ∙ ap (λ (x : CBufferDef). putRecord 7 buffers next (bufferWords x)) is)
-              ∙ record-appended 7 buffers next (words name) in-table refl
-              ∙ ap (λ (x : Text). take (next * 7) buffers ++ words x) is-name in
+              let words₁ : List ℕ × List ℕ = (take (v * variableWidth) variables₁, take (n * typeWidth) types₁) in
+              let in-table : next < length buffers / bufferWidth = omega (arith, ready .buffers-fit, so-far .long) in
+              let taken : take ((next + 1) * bufferWidth) buffers₁ ≡ take (next * bufferWidth) buffers ++ words (inChunk place size) =
+              ap (take ((next + 1) * bufferWidth)) (put ∙ ap (λ (x : CBufferDef). putRecord bufferWidth buffers next (bufferWords x)) is)
+              ∙ record-appended bufferWidth buffers next (words name) in-table refl
+              ∙ ap (λ (x : Text). take (next * bufferWidth) buffers ++ words x) is-name in
               record {
                 same = λ b.
                     so-far .same b
-                    ∙ many-further appendBuffer (readBuffer s sm5) 24 left at written (room b (fcap - next) (vcap - variable) (tcap - node)) some
+                    ∙ many-further appendBuffer (readBuffer s sm5) bufferStride left at written (room b (fcap - next) (vcap - variable) (tcap - node)) some
                     (ap (one b) one-less ∙ filled (At place size) found (Ended v n) walk b)
-                    ∙ ap (λ (x : List ℕ). buffersProgress s sm5 (left - 1) (at + 24) (x, words₁) (room b after (vcap - v) (tcap - n))) (sym taken);
+                    ∙ ap (λ (x : List ℕ). buffersProgress s sm5 (left - 1) (at + bufferStride) (x, words₁) (room b after (vcap - v) (tcap - n))) (sym taken);
                 grew = record { low = omega arith; high = omega arith };
                 grew-variables = record { low = omega arith; high = walk .grew .0 .high };
                 grew-types = record { low = omega arith; high = walk .grew .1 .high };

@@ -8,6 +8,7 @@ use Rattle.words.specs.Words.{wordAt}
 use Rattle.words.specs.Parts.{inside}
 use Rattle.text.specs.declared.Found.the-variants.{At, Bad}
 use Rattle.text.specs.Strings.{cstringAt}
+use Rattle.reflection.specs.Refusals.{recordPastEnd, badName, noRoom}
 use Rattle.reflection.specs.declared.Text.{Text}
 use Rattle.reflection.specs.Outcome.{Outcome, because}
 use Rattle.reflection.specs.Reflection.{ResourceBinding}
@@ -25,7 +26,7 @@ module _ (s : List ℕ) (wide : Bool) (at : ℕ) (w : List ℕ) (f v t : ℕ) wh
   abbrev appended : Outcome (ResourceBinding Text × Room) → Progress (List ℕ)
   appended x = progress appendBinding x w
 
-  pub binding-full : appended (readBinding s wide at (room 0 f v t)) ≡ stopped (because 15)
+  pub binding-full : appended (readBinding s wide at (room 0 f v t)) ≡ stopped (because noRoom)
   unfolding readBinding
   binding-full = ap appended (binding-none 0 f v t _)
 
@@ -34,7 +35,7 @@ module _ (s : List ℕ) (wide : Bool) (at : ℕ) (w : List ℕ) (f v t : ℕ) wh
     abbrev one : Progress (List ℕ)
     one = appended (readBinding s wide at (room (suc b) f v t))
 
-    pub binding-short : inside (length s) at (bindingStride wide) ≡ false → one ≡ stopped (because 7)
+    pub binding-short : inside (length s) at (bindingStride wide) ≡ false → one ≡ stopped (because recordPastEnd)
     unfolding readBinding
     binding-short short = ap appended (binding-taken b f v t _ ∙ check-fails _ _ _ _ short)
 
@@ -44,7 +45,7 @@ module _ (s : List ℕ) (wide : Bool) (at : ℕ) (w : List ℕ) (f v t : ℕ) wh
       binding-coded-wrong e is some = ap appended (binding-taken b f v t _ ∙ check-holds _ _ _ _ fits ∙ codes-fail _ _ _ _ e is some)
 
       module _ (none : codeFault s at ≤ 0) where
-        pub binding-named-badly : cstringAt s (wordAt s at) ≡ Bad → one ≡ stopped (because 11)
+        pub binding-named-badly : cstringAt s (wordAt s at) ≡ Bad → one ≡ stopped (because badName)
         unfolding readBinding
         binding-named-badly bad = ap appended (binding-taken b f v t _ ∙ check-holds _ _ _ _ fits ∙ codes-hold _ _ _ _ none ∙ text-bad _ _ _ _ bad)
 

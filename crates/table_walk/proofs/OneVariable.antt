@@ -8,6 +8,8 @@ use Rattle.words.specs.Words.{wordAt}
 use Rattle.words.specs.Parts.{inside}
 use Rattle.text.specs.declared.Found.the-variants.{At, Bad}
 use Rattle.text.specs.Strings.{cstringAt}
+use Rattle.reflection.specs.Limits.{typeLevels}
+use Rattle.reflection.specs.Refusals.{recordPastEnd, badName, defaultPastEnd, noRoom}
 use Rattle.reflection.specs.declared.Text.{Text}
 use Rattle.reflection.specs.Outcome.{Outcome, ok, refused, because}
 use Rattle.reflection.specs.Reflection.{TypeDesc, CBufferVariable}
@@ -25,7 +27,7 @@ module _ (s : List ℕ) (sm5 : Bool) (at : ℕ) (w : List ℕ × List ℕ) (b f 
   abbrev appended : Outcome (CBufferVariable Text Text × Room) → Progress (List ℕ × List ℕ)
   appended x = progress appendVariable x w
 
-  pub variable-full : appended (readVariable s sm5 at (room b f 0 t)) ≡ stopped (because 15)
+  pub variable-full : appended (readVariable s sm5 at (room b f 0 t)) ≡ stopped (because noRoom)
   unfolding readVariable
   variable-full = ap appended (variable-none b f 0 t _)
 
@@ -34,17 +36,17 @@ module _ (s : List ℕ) (sm5 : Bool) (at : ℕ) (w : List ℕ × List ℕ) (b f 
     abbrev one : Progress (List ℕ × List ℕ)
     one = appended (readVariable s sm5 at (room b f (suc v) t))
 
-    pub variable-short : inside (length s) at (variableStride sm5) ≡ false → one ≡ stopped (because 7)
+    pub variable-short : inside (length s) at (variableStride sm5) ≡ false → one ≡ stopped (because recordPastEnd)
     unfolding readVariable
     variable-short short = ap appended (variable-taken b f v t _ ∙ check-fails _ _ _ _ short)
 
     module _ (fits : inside (length s) at (variableStride sm5) ≡ true) where
-      pub variable-default-outside : defaultAt s (wordAt s (at + 20)) (wordAt s (at + 8)) ≡ Bad → one ≡ stopped (because 12)
+      pub variable-default-outside : defaultAt s (wordAt s (at + 20)) (wordAt s (at + 8)) ≡ Bad → one ≡ stopped (because defaultPastEnd)
       unfolding readVariable
       variable-default-outside outside = ap appended (variable-taken b f v t _ ∙ check-holds _ _ _ _ fits ∙ text-bad _ _ _ _ outside)
 
       module _ (dplace dsize : ℕ) (default : defaultAt s (wordAt s (at + 20)) (wordAt s (at + 8)) ≡ At dplace dsize) where
-        pub variable-named-badly : cstringAt s (wordAt s at) ≡ Bad → one ≡ stopped (because 11)
+        pub variable-named-badly : cstringAt s (wordAt s at) ≡ Bad → one ≡ stopped (because badName)
         unfolding readVariable
         variable-named-badly bad =
             ap appended (variable-taken b f v t _ ∙ check-holds _ _ _ _ fits ∙ text-found _ _ _ _ dplace dsize default ∙ text-bad _ _ _ _ bad)
@@ -53,12 +55,12 @@ module _ (s : List ℕ) (sm5 : Bool) (at : ℕ) (w : List ℕ × List ℕ) (b f 
         pub variable-read : (place size : ℕ) → cstringAt s (wordAt s at) ≡ At place size
             → one
             ≡ onward (λ nodes r. reached (w .0 ++ variableWords (variableRow s sm5 at (inChunk place size) (inChunk dplace dsize)), nodes) r)
-            (typeProgress s sm5 65 [] (wordAt s (at + 16)) (inChunk 0 0) 0 (w .1) (room b f v t))
+            (typeProgress s sm5 typeLevels [] (wordAt s (at + 16)) (inChunk 0 0) 0 (w .1) (room b f v t))
         unfolding readVariable typeProgress return appendVariable variableRecord variableFrom variableRow
         variable-read place size found =
             ap appended
             (variable-taken b f v t _ ∙ check-holds _ _ _ _ fits ∙ text-found _ _ _ _ dplace dsize default ∙ text-found _ _ _ _ place size found ∙ bind-is _ _ _)
-            ∙ typed (readType s sm5 65 [] (wordAt s (at + 16)) (room b f v t))
+            ∙ typed (readType s sm5 typeLevels [] (wordAt s (at + 16)) (room b f v t))
           where
             typed : (y : Outcome (TypeDesc Text × Room))
                 → appended (andThen y (λ type. return (variableFrom s sm5 at (inChunk place size) (inChunk dplace dsize) type)))

@@ -8,6 +8,7 @@ use borrow.Author.Tests.{not-false}
 use lib.ListN.{length}
 use Rattle.words.specs.Parts.{inside}
 use Rattle.words.proofs.Parts.{inside-fits}
+use Rattle.reflection.specs.Limits.{chunkLimit}
 
-pub record-ends : (s : List ℕ) (at stride : ℕ) → length s ≤ 65536 → (test : Bool) → test ≡ inside (length s) at stride → not test ≡ false → at + stride ≤ 65536
+pub record-ends : (s : List ℕ) (at stride : ℕ) → length s ≤ chunkLimit → (test : Bool) → test ≡ inside (length s) at stride → not test ≡ false → at + stride ≤ chunkLimit
 record-ends s at stride chunk test is passed = omega (arith, inside-fits (length s) at stride (sym is ∙ not-false test passed))

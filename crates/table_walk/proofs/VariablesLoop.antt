@@ -9,6 +9,8 @@ use Rattle.words.specs.Words.{wordAt}
 use Rattle.words.specs.Parts.{inside}
 use Rattle.text.specs.declared.Found.the-variants.{At, Bad}
 use Rattle.text.specs.Strings.{cstringAt}
+use Rattle.reflection.specs.Limits.{variableWidth, typeWidth, typeLevels}
+use Rattle.reflection.specs.Refusals.{recordPastEnd, badName, defaultPastEnd, noRoom}
 use Rattle.reflection.specs.declared.Text.{Text}
 use Rattle.reflection.specs.declared.CBufferVariable.{CBufferVariable}
 use Rattle.reflection.specs.declared.Refusal.{Refusal}
@@ -31,8 +33,8 @@ use Rattle.table_walk.proofs.OneVariable.{variable-full, variable-short
 -- The loop's invariant: `next` variables and `node` nodes stand in the tables, and `left` variables are left, from `at` on.
 pub record VariablesLeft (s : List ℕ) (sm5 : Bool) (first count vcap tcap v n : ℕ) (variables₀ types₀ path₀ variables types path : List ℕ)
     (next node at left : ℕ) : Type 0 where
-  pub same : (b f : ℕ) → variablesProgress s sm5 count first (take (v * 13) variables₀, take (n * 17) types₀) (room b f (vcap - v) (tcap - n))
-      ≡ variablesProgress s sm5 left at (take (next * 13) variables, take (node * 17) types) (room b f (vcap - next) (tcap - node))
+  pub same : (b f : ℕ) → variablesProgress s sm5 count first (take (v * variableWidth) variables₀, take (n * typeWidth) types₀) (room b f (vcap - v) (tcap - n))
+      ≡ variablesProgress s sm5 left at (take (next * variableWidth) variables, take (node * typeWidth) types) (room b f (vcap - next) (tcap - node))
   pub grew : Grew vcap v next
   pub grew-types : Grew tcap n node
   pub long : length variables ≡ length variables₀
@@ -57,7 +59,7 @@ module _ {s : List ℕ} {sm5 : Bool} {first count vcap tcap v n : ℕ} {variable
   result variables′ types′ r = WalkedVariables (variablesProgress s sm5 count first) vcap tcap v n variables₀ variables′ types₀ types′ r
 
   abbrev written : List ℕ × List ℕ
-  written = (take (next * 13) variables, take (node * 17) types)
+  written = (take (next * variableWidth) variables, take (node * typeWidth) types)
 
   pub ends : left ≤ 0 → result variables types (Ended next node)
   unfolding variablesProgress
@@ -67,7 +69,7 @@ module _ {s : List ℕ} {sm5 : Bool} {first count vcap tcap v n : ℕ} {variable
   }
 
   -- what the walk of a type is given
-  pub type-ready : Ready s 65 tcap node types path
+  pub type-ready : Ready s typeLevels tcap node types path
   type-ready = record {
     chunk = ready .chunk;
     levels-fit = omega arith;
@@ -90,7 +92,7 @@ module _ {s : List ℕ} {sm5 : Bool} {first count vcap tcap v n : ℕ} {variable
       grew = tt;
     }
 
-    pub ends-full : vcap ≤ next → result variables types (Stopped (because 15))
+    pub ends-full : vcap ≤ next → result variables types (Stopped (because noRoom))
     ends-full full = stops 0 (omega arith) (λ b f. variable-full s sm5 at written b f (tcap - node))
 
     module _ (free : next < vcap) where
@@ -100,51 +102,52 @@ module _ {s : List ℕ} {sm5 : Bool} {first count vcap tcap v n : ℕ} {variable
       one-less : vcap - next ≡ suc after
       one-less = omega arith
 
-      pub ends-short : inside (length s) at (variableStride sm5) ≡ false → result variables types (Stopped (because 7))
+      pub ends-short : inside (length s) at (variableStride sm5) ≡ false → result variables types (Stopped (because recordPastEnd))
       ends-short short = stops (suc after) one-less (λ b f. variable-short s sm5 at written b f (tcap - node) after short)
 
       module _ (fits : inside (length s) at (variableStride sm5) ≡ true) where
-        pub ends-default-outside : defaultAt s (wordAt s (at + 20)) (wordAt s (at + 8)) ≡ Bad → result variables types (Stopped (because 12))
+        pub ends-default-outside : defaultAt s (wordAt s (at + 20)) (wordAt s (at + 8)) ≡ Bad → result variables types (Stopped (because defaultPastEnd))
         ends-default-outside outside = stops (suc after) one-less (λ b f. variable-default-outside s sm5 at written b f (tcap - node) after fits outside)
 
         module _ {dplace dsize : ℕ} (default : defaultAt s (wordAt s (at + 20)) (wordAt s (at + 8)) ≡ At dplace dsize) where
-          pub ends-named-badly : cstringAt s (wordAt s at) ≡ Bad → result variables types (Stopped (because 11))
+          pub ends-named-badly : cstringAt s (wordAt s at) ≡ Bad → result variables types (Stopped (because badName))
           ends-named-badly bad = stops (suc after) one-less (λ b f. variable-named-badly s sm5 at written b f (tcap - node) after fits dplace dsize default bad)
 
           -- its record is written, and its type at `below` was walked
           module _ {place size : ℕ} (found : cstringAt s (wordAt s at) ≡ At place size)
               {name initial : Text} (is-name : name ≡ inChunk place size) (is-initial : initial ≡ inChunk dplace dsize)
               {variable : CBufferVariable} (is : variable ≡ variableRow s sm5 at name initial)
-              {variables₁ : List ℕ} (put : variables₁ ≡ putRecord 13 variables next (variableWords variable))
-              {below : ℕ} (is-below : below ≡ wordAt s (at + 16)) (types₁ path₁ : List ℕ) where
+              {variables₁ : List ℕ} (put : variables₁ ≡ putRecord variableWidth variables next (variableWords variable))
+              {below : ℕ} (is-below : below ≡ wordAt s (at + 16)) {root : Text} (is-root : root ≡ inChunk 0 0) (types₁ path₁ : List ℕ) where
             abbrev walked : Walk → Type 0
-            walked r = Walked (typeProgress s sm5 65 [] below (inChunk 0 0) 0 (take (node * 17) types)) 65 tcap node types types₁ path path₁ r
+            walked r = Walked (typeProgress s sm5 typeLevels [] below root 0 (take (node * typeWidth) types)) typeLevels tcap node types types₁ path path₁ r
 
             abbrev words : Text → Text → List ℕ
             words x y = variableWords (variableRow s sm5 at x y)
 
-            taken : take ((next + 1) * 13) variables₁ ≡ take (next * 13) variables ++ words (inChunk place size) (inChunk dplace dsize)
+            taken : take ((next + 1) * variableWidth) variables₁ ≡ take (next * variableWidth) variables ++ words (inChunk place size) (inChunk dplace dsize)
             unfolding variableWords
             taken =
-                let in-table : next < length variables / 13 = omega (arith, ready .variables-fit, so-far .long) in
-                ap (take ((next + 1) * 13)) (put ∙ ap (λ (x : CBufferVariable). putRecord 13 variables next (variableWords x)) is)
-                ∙ record-appended 13 variables next (words name initial) in-table refl
-                ∙ ap (λ (x : Text). take (next * 13) variables ++ words x initial) is-name
-                ∙ ap (λ (x : Text). take (next * 13) variables ++ words (inChunk place size) x) is-initial
+                let in-table : next < length variables / variableWidth = omega (arith, ready .variables-fit, so-far .long) in
+                ap (take ((next + 1) * variableWidth)) (put ∙ ap (λ (x : CBufferVariable). putRecord variableWidth variables next (variableWords x)) is)
+                ∙ record-appended variableWidth variables next (words name initial) in-table refl
+                ∙ ap (λ (x : Text). take (next * variableWidth) variables ++ words x initial) is-name
+                ∙ ap (λ (x : Text). take (next * variableWidth) variables ++ words (inChunk place size) x) is-initial
 
             abbrev recorded : List ℕ → Progress (List ℕ) → Progress (List ℕ × List ℕ)
             recorded w = onward (λ nodes r. reached (w, nodes) r)
 
-            abbrev typeAt : ℕ → ℕ → ℕ → Progress (List ℕ)
-            typeAt x b f = typeProgress s sm5 65 [] x (inChunk 0 0) 0 (take (node * 17) types) (room b f after (tcap - node))
+            abbrev typeAt : ℕ → Text → ℕ → ℕ → Progress (List ℕ)
+            typeAt x y b f = typeProgress s sm5 typeLevels [] x y 0 (take (node * typeWidth) types) (room b f after (tcap - node))
 
             -- what the walk of the type leaves is what reading the variable appends
-            typed : (r : Walk) → walked r → (b f : ℕ) → one b f (suc after) ≡ recorded (take ((next + 1) * 13) variables₁) (answered tcap r types₁ (room b f after))
+            typed : (r : Walk) → walked r → (b f : ℕ) → one b f (suc after) ≡ recorded (take ((next + 1) * variableWidth) variables₁) (answered tcap r types₁ (room b f after))
             typed r type b f =
                 variable-read s sm5 at written b f (tcap - node) after fits dplace dsize default place size found
-                ∙ ap (λ (x : List ℕ). recorded x (typeAt (wordAt s (at + 16)) b f)) (sym taken)
-                ∙ ap (λ (x : ℕ). recorded (take ((next + 1) * 13) variables₁) (typeAt x b f)) (sym is-below)
-                ∙ ap (recorded (take ((next + 1) * 13) variables₁)) (type .outcome b f after)
+                ∙ ap (λ (x : List ℕ). recorded x (typeAt (wordAt s (at + 16)) (inChunk 0 0) b f)) (sym taken)
+                ∙ ap (λ (x : ℕ). recorded (take ((next + 1) * variableWidth) variables₁) (typeAt x (inChunk 0 0) b f)) (sym is-below)
+                ∙ ap (λ (y : Text). recorded (take ((next + 1) * variableWidth) variables₁) (typeAt below y b f)) (sym is-root)
+                ∙ ap (recorded (take ((next + 1) * variableWidth) variables₁)) (type .outcome b f after)
 
             pub ends-below : {r : Walk} (e : Refusal) → r ≡ Refused e → walked r → result variables₁ types₁ (Stopped e)
             ends-below e is-refused type = stops (suc after) one-less (typed (Refused e) (subst walked is-refused type))
@@ -155,7 +158,7 @@ module _ {s : List ℕ} {sm5 : Bool} {first count vcap tcap v n : ℕ} {variable
             unfolding variablesProgress
             goes-on m is-next answer stride is-stride long long-types long-path =
                 let type : walked (Next m) = subst walked is-next answer in
-                let words₁ : List ℕ × List ℕ = (take ((next + 1) * 13) variables₁, take (m * 17) types₁) in
+                let words₁ : List ℕ × List ℕ = (take ((next + 1) * variableWidth) variables₁, take (m * typeWidth) types₁) in
                 record {
                   same = λ b f.
                       so-far .same b f

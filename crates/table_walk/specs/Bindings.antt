@@ -8,6 +8,7 @@ use Rattle.words.specs.Words.{wordAt}
 use Rattle.codes.specs.Table.{known}
 use Rattle.codes.specs.Microsoft.{inputTypes, srvDimensions}
 use Rattle.codes.specs.Flags.{bindingFlagsAllowed}
+use Rattle.reflection.specs.Limits.{chunkLimit, bindingWidth}
 use Rattle.reflection.specs.declared.Text.{Text}
 use Rattle.reflection.specs.Reflection.{ResourceBinding}
 use Rattle.reflection.specs.Records.{bindingWords}
@@ -39,11 +40,11 @@ codeFault s at =
     ]
 
 pub record ReadyBindings (s : List ℕ) (capacity : ℕ) (t : List ℕ) : Type 0 where
-  pub chunk : length s ≤ 65536
-  pub fits : capacity ≤ length t / 12
+  pub chunk : length s ≤ chunkLimit
+  pub fits : capacity ≤ length t / bindingWidth
 
 abbrev pub bindingsAnswered : ℕ → Walk → List ℕ → (ℕ → Room) → Progress (List ℕ)
-bindingsAnswered capacity (Next m) t r = reached (take (m * 12) t) (r (capacity - m))
+bindingsAnswered capacity (Next m) t r = reached (take (m * bindingWidth) t) (r (capacity - m))
 bindingsAnswered capacity (Refused e) t r = stopped e
 
 -- From an empty table.

@@ -5,6 +5,8 @@ use mathlib.Core.List.{List, [], _++_}
 use Prim.Native.Nat.{ℕ, _+_, _*_, _-_, _/_, _≤_}
 use lib.ListN.{length, take}
 use Rattle.words.specs.Words.{wordAt}
+use Rattle.reflection.specs.Limits.{chunkLimit, bufferWidth, variableWidth, typeWidth, typeLevels}
+use Rattle.reflection.specs.Strides.{bufferStride}
 use Rattle.reflection.specs.declared.Text.{Text}
 use Rattle.reflection.specs.declared.CBufferDef.{CBufferDef as BufferRecord}
 use Rattle.reflection.specs.Reflection.{CBufferDef}
@@ -25,22 +27,22 @@ unfoldable pub appendBuffer : CBufferDef Text Text → Words → Words
 appendBuffer x w = (w .0 ++ bufferWords (bufferRecord x), appendAll appendVariable (x .variables) (w .1))
 
 unfoldable pub buffersProgress : List ℕ → Bool → ℕ → ℕ → Words → Room → Progress Words
-buffersProgress s sm5 n at w r = progress (appendAll appendBuffer) (readMany (readBuffer s sm5) 24 n at r) w
+buffersProgress s sm5 n at w r = progress (appendAll appendBuffer) (readMany (readBuffer s sm5) bufferStride n at r) w
 
 -- The record of the buffer at an offset: its variable count is the one that the chunk says.
 unfoldable pub bufferRow : List ℕ → ℕ → Text → BufferRecord
 bufferRow s at name = record { name = name; «variable_count» = wordAt s (at + 4); size = wordAt s (at + 12); flags = wordAt s (at + 16); «cb_type» = wordAt s (at + 20) }
 
 pub record ReadyBuffers (s : List ℕ) (fcap vcap tcap : ℕ) (buffers variables types path : List ℕ) : Type 0 where
-  pub chunk : length s ≤ 65536
-  pub path-is : length path ≡ 65
-  pub buffers-fit : fcap ≤ length buffers / 7
-  pub variables-fit : vcap ≤ length variables / 13
-  pub types-fit : tcap ≤ length types / 17
+  pub chunk : length s ≤ chunkLimit
+  pub path-is : length path ≡ typeLevels
+  pub buffers-fit : fcap ≤ length buffers / bufferWidth
+  pub variables-fit : vcap ≤ length variables / variableWidth
+  pub types-fit : tcap ≤ length types / typeWidth
 
 abbrev pub buffersAnswered : ℕ → ℕ → ℕ → BuffersWalk → List ℕ → List ℕ → List ℕ → (ℕ → ℕ → ℕ → Room) → Progress Words
 buffersAnswered fcap vcap tcap (Filled f v n) buffers variables types r =
-    reached (take (f * 7) buffers, (take (v * 13) variables, take (n * 17) types)) (r (fcap - f) (vcap - v) (tcap - n))
+    reached (take (f * bufferWidth) buffers, (take (v * variableWidth) variables, take (n * typeWidth) types)) (r (fcap - f) (vcap - v) (tcap - n))
 buffersAnswered fcap vcap tcap (Halted e) buffers variables types r = stopped e
 
 abbrev pub BuffersGrew : ℕ → ℕ → ℕ → BuffersWalk → Type 0

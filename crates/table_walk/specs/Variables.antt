@@ -5,6 +5,7 @@ use mathlib.Core.List.{List, _++_}
 use Prim.Native.Nat.{ℕ, _+_, _*_, _-_, _/_, _≤_}
 use lib.ListN.{length, take}
 use Rattle.words.specs.Words.{wordAt}
+use Rattle.reflection.specs.Limits.{chunkLimit, variableWidth, typeWidth, typeLevels}
 use Rattle.reflection.specs.declared.Text.{Text}
 use Rattle.reflection.specs.declared.CBufferVariable.{CBufferVariable as VariableRecord}
 use Rattle.reflection.specs.Reflection.{CBufferVariable}
@@ -41,15 +42,15 @@ variableRow s sm5 at name default = record {
 
 -- Room for so many variables and nodes, of which v and n are taken.
 pub record ReadyVariables (s : List ℕ) (vcap tcap v n : ℕ) (variables types path : List ℕ) : Type 0 where
-  pub chunk : length s ≤ 65536
-  pub path-is : length path ≡ 65
+  pub chunk : length s ≤ chunkLimit
+  pub path-is : length path ≡ typeLevels
   pub next-variable : v ≤ vcap
   pub next-type : n ≤ tcap
-  pub variables-fit : vcap ≤ length variables / 13
-  pub types-fit : tcap ≤ length types / 17
+  pub variables-fit : vcap ≤ length variables / variableWidth
+  pub types-fit : tcap ≤ length types / typeWidth
 
 abbrev pub variablesAnswered : ℕ → ℕ → VariablesWalk → List ℕ → List ℕ → (ℕ → ℕ → Room) → Progress (List ℕ × List ℕ)
-variablesAnswered vcap tcap (Ended v n) variables types r = reached (take (v * 13) variables, take (n * 17) types) (r (vcap - v) (tcap - n))
+variablesAnswered vcap tcap (Ended v n) variables types r = reached (take (v * variableWidth) variables, take (n * typeWidth) types) (r (vcap - v) (tcap - n))
 variablesAnswered vcap tcap (Stopped e) variables types r = stopped e
 
 abbrev pub VariablesGrew : ℕ → ℕ → ℕ → ℕ → VariablesWalk → Type 0
@@ -57,5 +58,5 @@ VariablesGrew vcap tcap v n (Ended v′ n′) = Grew vcap v v′ × Grew tcap n 
 VariablesGrew vcap tcap v n (Stopped e) = Unit
 
 pub record WalkedVariables (out : List ℕ × List ℕ → Room → Progress (List ℕ × List ℕ)) (vcap tcap v n : ℕ) (variables variables′ types types′ : List ℕ) (r : VariablesWalk) : Type 0 where
-  pub outcome : (b f : ℕ) → out (take (v * 13) variables, take (n * 17) types) (room b f (vcap - v) (tcap - n)) ≡ variablesAnswered vcap tcap r variables′ types′ (room b f)
+  pub outcome : (b f : ℕ) → out (take (v * variableWidth) variables, take (n * typeWidth) types) (room b f (vcap - v) (tcap - n)) ≡ variablesAnswered vcap tcap r variables′ types′ (room b f)
   pub grew : VariablesGrew vcap tcap v n r

@@ -1,29 +1,40 @@
 // The walk of the bindings.
 ghost use mathlib.Core.Path.{_≡_};
+ghost use mathlib.Core.Bool.{true};
 ghost use Prim.Native.Nat.{_≤_};
+ghost use Rattle.reflection.specs.Limits.{chunkLimit};
 ghost use Rattle.reflection.specs.Tables.{bindingRecord};
 ghost use Rattle.reading.specs.Read.{bindingStride, bindingFrom};
 ghost use Rattle.table_walk.specs.Bindings.{codeFault, bindingsProgress, ReadyBindings, WalkedBindings};
-use crate::in_chunk;
 use codes::BindingFlags;
 use codes::ResourceDimension;
 use codes::ResourceInputType;
+use reflection::BAD_NAME;
+use reflection::BINDING_STRIDE;
+use reflection::NO_ROOM;
+use reflection::RECORD_PAST_END;
 use reflection::Refusal;
 use reflection::ResourceBinding;
 use reflection::Text;
+use reflection::WIDE_BINDING_STRIDE;
+use reflection::in_chunk;
 use text::Found;
 use type_walk::Walk;
 
 // How many bytes a binding takes.
 fn binding_stride(wide: bool) -> usize
-    ensures { λ r. ⌜ (r ≡ bindingStride wide) × (r ≤ 40) ⌝ }
+    ensures { λ r. ⌜ (r ≡ bindingStride wide) × (r ≤ bindingStride true) ⌝ }
 {
-    if wide { 40 } else { 32 }
+    if wide {
+        WIDE_BINDING_STRIDE as usize
+    } else {
+        BINDING_STRIDE as usize
+    }
 }
 
 // The refusal of the first code of the binding at `at` that is not in Microsoft's tables, else 0.
 fn code_fault(s: &[u8], at: usize) -> u32
-    requires { ⌜ at ≤ 65536 ⌝ }
+    requires { ⌜ at ≤ chunkLimit ⌝ }
     ensures { λ r. ⌜ r ≡ codeFault (now (s .entry)) at ⌝ }
 {
     if ResourceInputType::is_known(words::word_at(s, at + 4)) {
@@ -44,7 +55,7 @@ fn code_fault(s: &[u8], at: usize) -> u32
 
 // The binding at `at`, whose name is known.
 fn binding_record(s: &[u8], at: usize, wide: bool, name: Text) -> ResourceBinding
-    requires { ⌜ at ≤ 65536 ⌝ }
+    requires { ⌜ at ≤ chunkLimit ⌝ }
     ensures { λ r. ⌜ r ≡ bindingRecord (bindingFrom (now (s .entry)) wide at name) ⌝ }
 {
     ResourceBinding {
@@ -79,10 +90,12 @@ pub fn walk_bindings(
     let mut left = count;
     while 0 < left {
         if capacity <= next {
-            return Walk::Refused(Refusal { number: 15 });
+            return Walk::Refused(Refusal { number: NO_ROOM });
         }
         if !words::inside(s.len(), at, stride) {
-            return Walk::Refused(Refusal { number: 7 });
+            return Walk::Refused(Refusal {
+                number: RECORD_PAST_END,
+            });
         }
         let fault = code_fault(s, at);
         if 0 < fault {
@@ -91,9 +104,9 @@ pub fn walk_bindings(
         let name = words::word_at(s, at);
         let found = text::cstring_at(s, name as usize);
         let Found::At(place, n) = found else {
-            return Walk::Refused(Refusal { number: 11 });
+            return Walk::Refused(Refusal { number: BAD_NAME });
         };
-        let binding = binding_record(s, at, wide, in_chunk(place, n));
+        let binding = binding_record(s, at, wide, in_chunk(place as u32, n as u32));
         reflection::put_binding(table, next, binding);
         next += 1;
         at += stride;

@@ -1,19 +1,24 @@
 // The walk of the buffers, each with its variables and their types.
 ghost use mathlib.Core.Path.{_≡_};
 ghost use Prim.Native.Nat.{_≤_};
+ghost use Rattle.reflection.specs.Limits.{chunkLimit};
 ghost use Rattle.table_walk.specs.Buffers.{bufferRow, buffersProgress, ReadyBuffers, WalkedBuffers};
 use crate::BuffersWalk;
 use crate::VariablesWalk;
-use crate::in_chunk;
 use crate::variables::walk_variables;
+use reflection::BAD_NAME;
+use reflection::BUFFER_STRIDE;
 use reflection::CBufferDef;
+use reflection::NO_ROOM;
+use reflection::RECORD_PAST_END;
 use reflection::Refusal;
 use reflection::Text;
+use reflection::in_chunk;
 use text::Found;
 
 // The buffer at `at`, whose name is known.
 fn buffer_record(s: &[u8], at: usize, name: Text) -> CBufferDef
-    requires { ⌜ at ≤ 65536 ⌝ }
+    requires { ⌜ at ≤ chunkLimit ⌝ }
     ensures { λ r. ⌜ r ≡ bufferRow (now (s .entry)) at name ⌝ }
 {
     CBufferDef {
@@ -50,10 +55,12 @@ pub fn walk_buffers(
     let mut left = count;
     while 0 < left {
         if fcap <= next {
-            return BuffersWalk::Halted(Refusal { number: 15 });
+            return BuffersWalk::Halted(Refusal { number: NO_ROOM });
         }
-        if !words::inside(s.len(), at, 24) {
-            return BuffersWalk::Halted(Refusal { number: 7 });
+        if !words::inside(s.len(), at, BUFFER_STRIDE as usize) {
+            return BuffersWalk::Halted(Refusal {
+                number: RECORD_PAST_END,
+            });
         }
         let many = words::word_at(s, at + 4);
         let start = words::word_at(s, at + 8);
@@ -82,12 +89,12 @@ pub fn walk_buffers(
         let name = words::word_at(s, at);
         let found = text::cstring_at(s, name as usize);
         let Found::At(place, n) = found else {
-            return BuffersWalk::Halted(Refusal { number: 11 });
+            return BuffersWalk::Halted(Refusal { number: BAD_NAME });
         };
-        let buffer = buffer_record(s, at, in_chunk(place, n));
+        let buffer = buffer_record(s, at, in_chunk(place as u32, n as u32));
         reflection::put_buffer(buffers, next, buffer);
         next += 1;
-        at += 24;
+        at += BUFFER_STRIDE as usize;
         left -= 1;
     }
     BuffersWalk::Filled(next, variable, node)

@@ -1,31 +1,44 @@
 // The walk of a buffer's variables, each with the nodes of its type.
 ghost use mathlib.Core.Path.{_≡_};
+ghost use mathlib.Core.Bool.{true};
 ghost use Prim.Native.Nat.{_+_, _≤_};
 ghost use lib.ListN.{length};
 ghost use Rattle.words.specs.Words.{wordAt};
 ghost use Rattle.text.specs.Strings.{Within};
+ghost use Rattle.reflection.specs.Limits.{chunkLimit};
 ghost use Rattle.reading.specs.Read.{variableStride, defaultAt};
 ghost use Rattle.table_walk.specs.Variables.{variableRow, variablesProgress, ReadyVariables, WalkedVariables};
 use crate::VariablesWalk;
-use crate::in_chunk;
 use codes::VariableFlags;
+use reflection::BAD_NAME;
 use reflection::CBufferVariable;
+use reflection::DEFAULT_PAST_END;
+use reflection::NO_ROOM;
+use reflection::RECORD_PAST_END;
 use reflection::Refusal;
+use reflection::SM5_VARIABLE_STRIDE;
+use reflection::TYPE_LEVELS;
 use reflection::Text;
+use reflection::VARIABLE_STRIDE;
+use reflection::in_chunk;
 use text::Found;
 use type_walk::Member;
 use type_walk::Walk;
 
 // How many bytes a variable takes.
 fn variable_stride(sm5: bool) -> usize
-    ensures { λ r. ⌜ (r ≡ variableStride sm5) × (r ≤ 40) ⌝ }
+    ensures { λ r. ⌜ (r ≡ variableStride sm5) × (r ≤ variableStride true) ⌝ }
 {
-    if sm5 { 40 } else { 24 }
+    if sm5 {
+        SM5_VARIABLE_STRIDE as usize
+    } else {
+        VARIABLE_STRIDE as usize
+    }
 }
 
 // The default of the variable at `at`: offset 0 means empty, any other must lie in the chunk.
 fn default_of(s: &[u8], at: usize) -> Found
-    requires { ⌜ at ≤ 65536 ⌝ }
+    requires { ⌜ at ≤ chunkLimit ⌝ }
     ensures { λ r. ⌜ (r ≡ defaultAt (now (s .entry)) (wordAt (now (s .entry)) (at + 20)) (wordAt (now (s .entry)) (at + 8)))
         × Within (length (now (s .entry))) r ⌝ }
 {
@@ -43,7 +56,7 @@ fn default_of(s: &[u8], at: usize) -> Found
 
 // The variable at `at`, whose name and default are known.
 fn variable_record(s: &[u8], at: usize, sm5: bool, name: Text, default: Text) -> CBufferVariable
-    requires { ⌜ at ≤ 65536 ⌝ }
+    requires { ⌜ at ≤ chunkLimit ⌝ }
     ensures { λ r. ⌜ r ≡ variableRow (now (s .entry)) sm5 at name default ⌝ }
 {
     CBufferVariable {
@@ -77,39 +90,55 @@ pub fn walk_variables(
     ensures { λ r. ⌜ WalkedVariables (variablesProgress (now (s .entry)) sm5 count first)
         vcap tcap v n (now (variables .entry)) (now (variables .exit)) (now (types .entry)) (now (types .exit)) r ⌝ }
 {
-    let stride = variable_stride(sm5);
     let root = Member {
-        name: Text {
-            source: 0,
-            place: 0,
-            length: 0,
-        },
+        name: in_chunk(0, 0),
         offset: 0,
     };
+    let stride = variable_stride(sm5);
     let mut next = v;
     let mut node = n;
     let mut at = first as usize;
     let mut left = count;
     while 0 < left {
         if vcap <= next {
-            return VariablesWalk::Stopped(Refusal { number: 15 });
+            return VariablesWalk::Stopped(Refusal { number: NO_ROOM });
         }
         if !words::inside(s.len(), at, stride) {
-            return VariablesWalk::Stopped(Refusal { number: 7 });
+            return VariablesWalk::Stopped(Refusal {
+                number: RECORD_PAST_END,
+            });
         }
         let default = default_of(s, at);
         let Found::At(dplace, dsize) = default else {
-            return VariablesWalk::Stopped(Refusal { number: 12 });
+            return VariablesWalk::Stopped(Refusal {
+                number: DEFAULT_PAST_END,
+            });
         };
         let name = words::word_at(s, at);
         let found = text::cstring_at(s, name as usize);
         let Found::At(place, size) = found else {
-            return VariablesWalk::Stopped(Refusal { number: 11 });
+            return VariablesWalk::Stopped(Refusal { number: BAD_NAME });
         };
-        let variable = variable_record(s, at, sm5, in_chunk(place, size), in_chunk(dplace, dsize));
+        let variable = variable_record(
+            s,
+            at,
+            sm5,
+            in_chunk(place as u32, size as u32),
+            in_chunk(dplace as u32, dsize as u32),
+        );
         reflection::put_variable(variables, next, variable);
         let below = words::word_at(s, at + 16);
-        let answer = type_walk::walk_type(s, below, sm5, 65, root, tcap, types, path, node);
+        let answer = type_walk::walk_type(
+            s,
+            below,
+            sm5,
+            TYPE_LEVELS,
+            root,
+            tcap,
+            types,
+            path,
+            node,
+        );
         match answer {
             Walk::Refused(refusal) => {
                 return VariablesWalk::Stopped(refusal);

@@ -9,6 +9,8 @@ use Rattle.words.specs.Words.{wordAt}
 use Rattle.words.specs.Parts.{inside}
 use Rattle.text.specs.declared.Found.the-variants.{At, Bad}
 use Rattle.text.specs.Strings.{cstringAt}
+use Rattle.reflection.specs.Strides.{memberStride}
+use Rattle.reflection.specs.Refusals.{recordPastEnd, badName}
 use Rattle.reflection.specs.declared.Text.{Text}
 use Rattle.reflection.specs.Outcome.{Outcome, ok, refused, because}
 use Rattle.reflection.specs.Reflection.{TypeDesc, Members, member}
@@ -26,28 +28,28 @@ module _ (s : List ℕ) (sm5 : Bool) (levels : ℕ) (path : List ℕ) (at : ℕ)
   members-none zero none = refl
   members-none (suc left) none = absurd (omega arith)
 
-  pub members-short : (left : ℕ) → 0 < left → inside (length s) at 12 ≡ false → membersProgress s sm5 levels path left at w room ≡ stopped (because 7)
+  pub members-short : (left : ℕ) → 0 < left → inside (length s) at memberStride ≡ false → membersProgress s sm5 levels path left at w room ≡ stopped (because recordPastEnd)
   unfolding membersProgress readMembers
   members-short zero some short = absurd (omega arith)
   members-short (suc left) some short = ap (λ (x : Outcome (Members Text × Room)). progress appendMembers x w) (check-fails _ _ _ _ short)
 
-  pub members-bad : (left : ℕ) → 0 < left → inside (length s) at 12 ≡ true → cstringAt s (wordAt s at) ≡ Bad
-      → membersProgress s sm5 levels path left at w room ≡ stopped (because 11)
+  pub members-bad : (left : ℕ) → 0 < left → inside (length s) at memberStride ≡ true → cstringAt s (wordAt s at) ≡ Bad
+      → membersProgress s sm5 levels path left at w room ≡ stopped (because badName)
   unfolding membersProgress readMembers
   members-bad zero some fits bad = absurd (omega arith)
   members-bad (suc left) some fits bad =
       ap (λ (x : Outcome (Members Text × Room)). progress appendMembers x w) (check-holds _ _ _ _ fits ∙ text-bad _ _ _ _ bad)
 
-  pub members-on : (left place n : ℕ) → 0 < left → inside (length s) at 12 ≡ true → cstringAt s (wordAt s at) ≡ At place n
+  pub members-on : (left place n : ℕ) → 0 < left → inside (length s) at memberStride ≡ true → cstringAt s (wordAt s at) ≡ At place n
       → membersProgress s sm5 levels path left at w room
-      ≡ onward (membersProgress s sm5 levels path (left - 1) (at + 12))
+      ≡ onward (membersProgress s sm5 levels path (left - 1) (at + memberStride))
       (typeProgress s sm5 levels path (wordAt s (at + 4)) (inChunk place n) (wordAt s (at + 8)) w room)
   unfolding membersProgress readMembers return appendMembers typeProgress
   members-on zero place n some fits found = absurd (omega arith)
   members-on (suc left) place n some fits found =
       ap (λ (x : Outcome (Members Text × Room)). progress appendMembers x w) (check-holds _ _ _ _ fits ∙ text-found _ _ _ _ place n found ∙ bind-is _ _ _)
       ∙ after-type (readType s sm5 levels path (wordAt s (at + 4)) room)
-      ∙ ap (λ (k : ℕ). onward (membersProgress s sm5 levels path k (at + 12)) (typeProgress s sm5 levels path (wordAt s (at + 4)) name offset w room))
+      ∙ ap (λ (k : ℕ). onward (membersProgress s sm5 levels path k (at + memberStride)) (typeProgress s sm5 levels path (wordAt s (at + 4)) name offset w room))
       (let d : left ≡ suc left - 1 = omega arith in d)
     where
       name : Text
@@ -63,9 +65,9 @@ module _ (s : List ℕ) (sm5 : Bool) (levels : ℕ) (path : List ℕ) (at : ℕ)
 
       after-type : (type : Outcome (TypeDesc Text × Room))
           → progress appendMembers
-          (andThen type (λ t. readMembers (λ below. readType s sm5 levels path below) s left (at + 12) >>= λ ms. return (member name offset t ms))) w
-          ≡ onward (membersProgress s sm5 levels path left (at + 12)) (progress (appendType name offset) type w)
+          (andThen type (λ t. readMembers (λ below. readType s sm5 levels path below) s left (at + memberStride) >>= λ ms. return (member name offset t ms))) w
+          ≡ onward (membersProgress s sm5 levels path left (at + memberStride)) (progress (appendType name offset) type w)
       after-type (ok z) =
           ap (λ (y : Outcome (Members Text × Room)). progress appendMembers y w) (bind-is _ _ (z .1))
-          ∙ after-others (z .0) (readMembers (λ below. readType s sm5 levels path below) s left (at + 12) (z .1))
+          ∙ after-others (z .0) (readMembers (λ below. readType s sm5 levels path below) s left (at + memberStride) (z .1))
       after-type (refused e) = refl

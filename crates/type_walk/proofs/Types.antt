@@ -9,6 +9,7 @@ use Rattle.words.specs.Words.{wordAt, highAt}
 use Rattle.words.specs.Parts.{inside}
 use Rattle.text.specs.declared.Found.{Found}
 use Rattle.text.specs.declared.Found.the-variants.{At, Bad}
+use Rattle.reflection.specs.Refusals.{recordPastEnd, badName, typeTooDeep, typeCycle, noRoom}
 use Rattle.reflection.specs.declared.Text.{Text}
 use Rattle.reflection.specs.Outcome.{Outcome, ok, refused, because}
 use Rattle.reflection.specs.Reflection.{TypeDesc, typeDesc, Members, memberCount}
@@ -24,27 +25,27 @@ use Rattle.type_walk.specs.Walk.{appendType, appendMembers, foundText, n
 abbrev pub unlessBad : Found → Progress (List ℕ) → Progress (List ℕ)
 unlessBad name (stopped e) = stopped e
 unlessBad (At place n) (reached w r) = reached w r
-unlessBad Bad (reached w r) = stopped (because 11)
+unlessBad Bad (reached w r) = stopped (because badName)
 
 module _ (s : List ℕ) (sm5 : Bool) (path : List ℕ) (at : ℕ) (mn : Text) (mo : ℕ) (w : List ℕ) (b f v : ℕ) where
-  pub type-deep : (t levels : ℕ) → levels ≡ 0 → typeProgress s sm5 levels path at mn mo w (room b f v t) ≡ stopped (because 13)
+  pub type-deep : (t levels : ℕ) → levels ≡ 0 → typeProgress s sm5 levels path at mn mo w (room b f v t) ≡ stopped (because typeTooDeep)
   unfolding typeProgress readType refuse
   type-deep t zero deep = refl
   type-deep t (suc levels) deep = absurd (omega arith)
 
-  pub type-cycle : (t levels : ℕ) → (levels ≡ 0 → ⊥) → onPath at path ≡ true → typeProgress s sm5 levels path at mn mo w (room b f v t) ≡ stopped (because 14)
+  pub type-cycle : (t levels : ℕ) → (levels ≡ 0 → ⊥) → onPath at path ≡ true → typeProgress s sm5 levels path at mn mo w (room b f v t) ≡ stopped (because typeCycle)
   unfolding typeProgress readType
   type-cycle t zero some cycle = absurd (some refl)
   type-cycle t (suc levels) some cycle = ap (λ (x : Outcome (TypeDesc Text × Room)). progress (appendType mn mo) x w) (check-fails _ _ _ _ (ap not cycle))
 
-  pub type-full : (levels : ℕ) → (levels ≡ 0 → ⊥) → onPath at path ≡ false → typeProgress s sm5 levels path at mn mo w (room b f v 0) ≡ stopped (because 15)
+  pub type-full : (levels : ℕ) → (levels ≡ 0 → ⊥) → onPath at path ≡ false → typeProgress s sm5 levels path at mn mo w (room b f v 0) ≡ stopped (because noRoom)
   unfolding typeProgress readType
   type-full zero some new = absurd (some refl)
   type-full (suc levels) some new =
       ap (λ (x : Outcome (TypeDesc Text × Room)). progress (appendType mn mo) x w) (check-holds _ _ _ _ (ap not new) ∙ type-none b f v 0 _)
 
   pub type-short : (t levels : ℕ) → (levels ≡ 0 → ⊥) → onPath at path ≡ false → inside (length s) at (typeStride sm5) ≡ false
-      → typeProgress s sm5 levels path at mn mo w (room b f v (suc t)) ≡ stopped (because 7)
+      → typeProgress s sm5 levels path at mn mo w (room b f v (suc t)) ≡ stopped (because recordPastEnd)
   unfolding typeProgress readType
   type-short t zero some new short = absurd (some refl)
   type-short t (suc levels) some new short =
@@ -82,13 +83,13 @@ module _ (s : List ℕ) (sm5 : Bool) (path : List ℕ) (at : ℕ) (mn : Text) (m
           typeWords (typeRecord (record { numbers = numbersFrom s sm5 at; member-count = k; name = foundText name; member-name = mn; member-offset = mo }))
 
       after-name : (name : Found) (ms : Members Text) (r : Room) → memberCount ms ≡ count
-          → progress (appendType mn mo) (andThen (textOr 11 name r) (λ x. return (typeDesc (numbersFrom s sm5 at) x ms))) w
+          → progress (appendType mn mo) (andThen (textOr badName name r) (λ x. return (typeDesc (numbersFrom s sm5 at) x ms))) w
           ≡ unlessBad name (reached (appendMembers ms (w ++ node count name)) r)
       after-name (At place n) ms r counted = ap (λ (k : ℕ). reached (appendMembers ms (w ++ node k (At place n))) r) counted
       after-name Bad ms r counted = refl
 
       after-members : (y : Outcome (Members Text × Room)) → Gives (λ ms. memberCount ms ≡ count) y
-          → progress (appendType mn mo) (andThen y (λ ms. textOr 11 found >>= λ x. return (typeDesc (numbersFrom s sm5 at) x ms))) w
+          → progress (appendType mn mo) (andThen y (λ ms. textOr badName found >>= λ x. return (typeDesc (numbersFrom s sm5 at) x ms))) w
           ≡ unlessBad found (progress appendMembers y (w ++ node count found))
       after-members (ok z) counted =
           ap (λ (y : Outcome (TypeDesc Text × Room)). progress (appendType mn mo) y w) (bind-is _ _ (z .1)) ∙ after-name found (z .0) (z .1) counted

@@ -7,6 +7,7 @@ use lib.ListN.{length, take}
 use Rattle.words.specs.Words.{highAt}
 use Rattle.text.specs.declared.Found.{Found}
 use Rattle.text.specs.declared.Found.the-variants.{At, Bad}
+use Rattle.reflection.specs.Limits.{chunkLimit, typeWidth, typeLevels}
 use Rattle.reflection.specs.declared.Text.{Text}
 use Rattle.reflection.specs.Reflection.{TypeDesc, typeDesc, Members, noMember, member, memberCount}
 use Rattle.reflection.specs.Texts.{inChunk}
@@ -56,15 +57,15 @@ membersProgress s sm5 levels path n at w r = progress appendMembers (readMembers
 
 -- What a walk is given: a chunk whose places fit a word, the levels left, the path, room for `capacity` nodes, of which n are taken.
 pub record Ready (s : List ℕ) (levels capacity n : ℕ) (types path : List ℕ) : Type 0 where
-  pub chunk : length s ≤ 65536
-  pub levels-fit : levels ≤ 65
-  pub path-is : length path ≡ 65
+  pub chunk : length s ≤ chunkLimit
+  pub levels-fit : levels ≤ typeLevels
+  pub path-is : length path ≡ typeLevels
   pub next : n ≤ capacity
-  pub fits : capacity ≤ length types / 17
+  pub fits : capacity ≤ length types / typeWidth
 
 -- The progress that an answer and the table as it was left stand for.
 abbrev pub answered : ℕ → Walk → List ℕ → (ℕ → Room) → Progress (List ℕ)
-answered capacity (Next m) types r = reached (take (m * 17) types) (r (capacity - m))
+answered capacity (Next m) types r = reached (take (m * typeWidth) types) (r (capacity - m))
 answered capacity (Refused e) types r = stopped e
 
 abbrev pub GrewTo : ℕ → ℕ → Walk → Type 0
@@ -75,4 +76,4 @@ GrewTo capacity n (Refused e) = Unit
 pub record Walked (out : Room → Progress (List ℕ)) (levels capacity n : ℕ) (types types′ path path′ : List ℕ) (r : Walk) : Type 0 where
   pub outcome : (b f v : ℕ) → out (room b f v (capacity - n)) ≡ answered capacity r types′ (room b f v)
   pub grew : GrewTo capacity n r
-  pub above : take (65 - levels) path′ ≡ take (65 - levels) path
+  pub above : take (typeLevels - levels) path′ ≡ take (typeLevels - levels) path

@@ -3,12 +3,23 @@ ghost use mathlib.Core.Path.{_≡_};
 ghost use Prim.Native.Nat.{_*_, _-_, _≤_};
 ghost use lib.ListN.{length, take};
 ghost use Rattle.text.specs.Strings.{Within};
+ghost use Rattle.reflection.specs.Limits.{chunkLimit, typeLevels, typeWidth};
 ghost use Rattle.reflection.specs.Tables.{typeRecord};
 ghost use Rattle.reading.specs.Read.{typeStride, wordIf, typeNameAt, onPath};
 ghost use Rattle.type_walk.specs.Walk.{foundText, nodeFrom, turned, typeProgress, membersProgress, Ready, Walked};
+use reflection::BAD_NAME;
+use reflection::MEMBER_STRIDE;
+use reflection::NO_ROOM;
+use reflection::RECORD_PAST_END;
 use reflection::Refusal;
+use reflection::SM5_TYPE_STRIDE;
+use reflection::TYPE_CYCLE;
+use reflection::TYPE_LEVELS;
+use reflection::TYPE_STRIDE;
+use reflection::TYPE_TOO_DEEP;
 use reflection::Text;
 use reflection::TypeDesc;
+use reflection::in_chunk;
 use text::Found;
 
 // What a walk over one table answers: the next free record, or why it refused.
@@ -34,7 +45,11 @@ pub fn word_if(s: &[u8], long: bool, at: usize) -> u32
 fn type_stride(sm5: bool) -> usize
     ensures { λ r. ⌜ r ≡ typeStride sm5 ⌝ }
 {
-    if sm5 { 36 } else { 16 }
+    if sm5 {
+        SM5_TYPE_STRIDE as usize
+    } else {
+        TYPE_STRIDE as usize
+    }
 }
 
 // The name of the type at `at`: only major 5 has one, and offset 0 means empty.
@@ -56,20 +71,12 @@ fn type_name_at(s: &[u8], at: u32, sm5: bool) -> Found
 
 // What was found, as a text of the chunk; empty where it is bad.
 fn found_text(found: Found) -> Text
-    requires { ⌜ Within 65536 found ⌝ }
+    requires { ⌜ Within chunkLimit found ⌝ }
     ensures { λ r. ⌜ r ≡ foundText found ⌝ }
 {
     match found {
-        Found::At(place, n) => Text {
-            source: 0,
-            place: place as u32,
-            length: n as u32,
-        },
-        Found::Bad => Text {
-            source: 0,
-            place: 0,
-            length: 0,
-        },
+        Found::At(place, n) => in_chunk(place as u32, n as u32),
+        Found::Bad => in_chunk(0, 0),
     }
 }
 
@@ -126,18 +133,20 @@ pub fn walk_type(
 ) -> Walk
     requires { ⌜ Ready (now s) levels capacity n (now types) (now path) ⌝ }
     ensures { λ r. ⌜ Walked
-        (typeProgress (now (s .entry)) sm5 levels (turned (take (65 - levels) (now (path .entry)))) at (member .name) (member .offset) (take (n * 17) (now (types .entry))))
+        (typeProgress (now (s .entry)) sm5 levels (turned (take (typeLevels - levels) (now (path .entry)))) at (member .name) (member .offset) (take (n * typeWidth) (now (types .entry))))
         levels capacity n (now (types .entry)) (now (types .exit)) (now (path .entry)) (now (path .exit)) r ⌝ }
 {
     if levels == 0 {
-        return Walk::Refused(Refusal { number: 13 });
+        return Walk::Refused(Refusal {
+            number: TYPE_TOO_DEEP,
+        });
     }
-    let depth = 65 - levels;
+    let depth = TYPE_LEVELS - levels;
     if on_path(&path[..], depth, at) {
-        return Walk::Refused(Refusal { number: 14 });
+        return Walk::Refused(Refusal { number: TYPE_CYCLE });
     }
     if capacity <= n {
-        return Walk::Refused(Refusal { number: 15 });
+        return Walk::Refused(Refusal { number: NO_ROOM });
     }
     let base = at as usize;
     if words::inside(s.len(), base, type_stride(sm5)) {
@@ -162,11 +171,13 @@ pub fn walk_type(
             Walk::Refused(refusal) => Walk::Refused(refusal),
             Walk::Next(m) => match name {
                 Found::At(_, _) => Walk::Next(m),
-                Found::Bad => Walk::Refused(Refusal { number: 11 }),
+                Found::Bad => Walk::Refused(Refusal { number: BAD_NAME }),
             },
         }
     } else {
-        Walk::Refused(Refusal { number: 7 })
+        Walk::Refused(Refusal {
+            number: RECORD_PAST_END,
+        })
     }
 }
 
@@ -185,29 +196,25 @@ fn walk_members(
 ) -> Walk
     requires { ⌜ Ready (now s) levels capacity n (now types) (now path) ⌝ }
     ensures { λ r. ⌜ Walked
-        (membersProgress (now (s .entry)) sm5 levels (turned (take (65 - levels) (now (path .entry)))) count first (take (n * 17) (now (types .entry))))
+        (membersProgress (now (s .entry)) sm5 levels (turned (take (typeLevels - levels) (now (path .entry)))) count first (take (n * typeWidth) (now (types .entry))))
         levels capacity n (now (types .entry)) (now (types .exit)) (now (path .entry)) (now (path .exit)) r ⌝ }
 {
     let mut next = n;
     let mut at = first as usize;
     let mut left = count;
     while 0 < left {
-        if words::inside(s.len(), at, 12) {
+        if words::inside(s.len(), at, MEMBER_STRIDE as usize) {
             let name = words::word_at(s, at);
             let below = words::word_at(s, at + 4);
             let offset = words::word_at(s, at + 8);
             let found = text::cstring_at(s, name as usize);
             match found {
                 Found::Bad => {
-                    return Walk::Refused(Refusal { number: 11 });
+                    return Walk::Refused(Refusal { number: BAD_NAME });
                 }
                 Found::At(place, long) => {
                     let member = Member {
-                        name: Text {
-                            source: 0,
-                            place: place as u32,
-                            length: long as u32,
-                        },
+                        name: in_chunk(place as u32, long as u32),
                         offset: offset,
                     };
                     let answer = walk_type(
@@ -232,9 +239,11 @@ fn walk_members(
                 }
             }
         } else {
-            return Walk::Refused(Refusal { number: 7 });
+            return Walk::Refused(Refusal {
+                number: RECORD_PAST_END,
+            });
         }
-        at += 12;
+        at += MEMBER_STRIDE as usize;
         left -= 1;
     }
     Walk::Next(next)

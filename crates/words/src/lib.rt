@@ -7,6 +7,14 @@ ghost use Rattle.words.specs.Words.{halfAt, wordAt, lowAt, highAt};
 ghost use Rattle.words.specs.Parts.{inside, part};
 ghost use Rattle.words.specs.Splice.{splice};
 
+mod tests;
+
+pub use tests::at_most;
+pub use tests::both;
+pub use tests::either;
+pub use tests::one_of;
+pub use tests::same;
+
 // The byte at `at`, 0 past the end.
 pub fn byte_at(s: &[u8], at: usize) -> u32
     ensures { λ r. ⌜ (r ≡ getD (now (s .entry)) at 0) × (r < 256) ⌝ }

@@ -10,6 +10,7 @@ use Rattle.codes.specs.Table
 use Rattle.codes.specs.Microsoft
 use Rattle.codes.specs.Flags
 use Rattle.codes.specs.Variable
+use Rattle.reflection.specs.Rd11
 use Rattle.reflection.specs.Reflection
 use Rattle.reflection.specs.Texts
 use Rattle.reflection.specs.Nodes
@@ -74,7 +75,7 @@ unfolding Read.wordIf Read.readMany Read.onPath Read.readMembers Read.cstringOrE
 types-read = tt
 
 unfoldable chunks-read : Unit {0}
-unfolding types-read Read.defaultAt Read.variableFrom Read.readVariable Read.bufferFrom Read.readBuffer Read.bindingFrom Read.readBinding Read.rd11Allowed Read.readRd11 Read.readTables Read.readChunk Read.read
+unfolding types-read Read.defaultAt Read.variableFrom Read.readVariable Read.bufferFrom Read.readBuffer Read.bindingFrom Read.readBinding Rd11.rd11Allowed Read.readRd11 Read.readTables Read.readChunk Read.read
 chunks-read = tt
 
 unfoldable parts-readable : Unit {0}

@@ -20,6 +20,7 @@ pub +walk-members+walk-type-spec : {M : Type 1} → statement M
     Inv-loop
     μ-loop
     (m.loop-holds t)
+    (λ c. search needs)
     (λ c κs. search needs)
     (λ c κs. search needs)
     (m.add-word-at t)
@@ -35,6 +36,7 @@ pub +walk-members+walk-type-spec : {M : Type 1} → statement M
     (λ c. search needs)
     (m.cast-place t)
     (m.cast-length t)
+    (λ c κs. search needs)
     (m.walk-type-requires t)
     (λ c. search needs)
     (m.same-length-3 t)
@@ -44,6 +46,7 @@ pub +walk-members+walk-type-spec : {M : Type 1} → statement M
     (m.same-length-5 t)
     (m.same-length-6 t)
     (m.returns-3 t)
+    (λ c. search needs)
     (m.add-at t)
     (m.sub-left t)
     (m.loop-less t)

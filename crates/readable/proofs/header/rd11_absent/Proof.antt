@@ -1,13 +1,13 @@
--- `rd11_absent` meets its contract: for major 4 its tests are those of the definition; for another major there is none. Assumes nothing.
+-- `rd11_absent` meets its contract: major 5 has the words; for another major its tests are those of the definition. Assumes nothing.
 use mathlib.Core.Path.{sym, _∙_}
 use Rattle.readable.proofs.Bools.{both-are}
-use Rattle.readable.proofs.HeaderTests.{absent-4, absent-other}
+use Rattle.readable.proofs.HeaderTests.{absent-5, absent-other}
 use borrow.Author.Needs.{needs}
 use Rattle.readable.proofs.header.rd11_absent.Statement.{statement}
 use Rattle.readable.proofs.header.rd11_absent.Tie as tie
 
-major-of-requires : tie.Need-major-of-requires
-major-of-requires c κs = search needs
+is-sm5-requires : tie.Need-is-sm5-requires
+is-sm5-requires c κs = search needs
 
 same-requires : tie.Need-same-requires
 same-requires c κs = search needs
@@ -25,19 +25,20 @@ both-requires-2 : tie.Need-both-requires-2
 both-requires-2 c κs = search needs
 
 returns : tie.Need-returns
-returns c =
-    both-are (c .both2 .ensures) (c .before .before .before .before .same .ensures)
-    (both-are (c .before .both .ensures) (c .before .before .before .same2 .ensures) (c .before .before .same3 .ensures))
-    ∙ sym (absent-4 (c .before .before .before .before .before .before .before .before .args .def) (sym (c .before .before .before .before .before .before .before .major-of .ensures) ∙ c .before .before .before .before .before .before .if1 .taken))
+returns c = sym (absent-5 (c .before .before .args .def) (sym (c .before .is-sm5 .ensures) ∙ c .if1 .taken))
 
 returns-2 : tie.Need-returns-2
-returns-2 c = sym (absent-other (c .before .before .args .def) (λ e. c .if1 .left (c .before .major-of .ensures ∙ e)))
+returns-2 c =
+    let at-test = c .before .before .before .before .before .before in
+    both-are (c .both2 .ensures) (c .before .before .before .before .same .ensures)
+    (both-are (c .before .both .ensures) (c .before .before .before .same2 .ensures) (c .before .before .same3 .ensures))
+    ∙ sym (absent-other (at-test .before .before .args .def) (sym (at-test .before .is-sm5 .ensures) ∙ at-test .if1 .left))
 
 pub rd11-absent-spec : {M : Type 1} → statement M
 rd11-absent-spec =
     tie.close
     (tie.spec
-    major-of-requires
+    is-sm5-requires
     same-requires
     same-requires-2
     same-requires-3

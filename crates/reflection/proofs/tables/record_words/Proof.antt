@@ -6,6 +6,7 @@ use native.Mathlib.Nat.{add-sub-cancel-left}
 use native.Mathlib.Omega.{arith}
 use lib.ListN.{length, getD, take, drop, replicate, getD-replicate}
 use Rattle.words.specs.Splice.{splice}
+use Rattle.reflection.specs.Records.{typeWidth}
 use Rattle.reflection.proofs.Records.{record-inside, word-outside, word-of-row}
 use borrow.Author.Needs.{needs}
 use Rattle.reflection.proofs.tables.record_words.Statement.{statement}
@@ -45,11 +46,11 @@ returns c =
     let at = a .i * a .width in
     λ k h.
     ap (λ (w : List ℕ). getD w k 0)
-    (c .before .put-words .ensures ∙ ap (λ (n : ℕ). splice (replicate 17 0) 0 (take n (drop at t))) (add-sub-cancel-left at (a .width)))
-    ∙ word-of-row (a .width) t (a .i) (replicate 17 0) k (omega arith) (c .before .before .before .before .if1 .taken) h
+    (c .before .put-words .ensures ∙ ap (λ (n : ℕ). splice (replicate typeWidth 0) 0 (take n (drop at t))) (add-sub-cancel-left at (a .width)))
+    ∙ word-of-row (a .width) t (a .i) (replicate typeWidth 0) k (omega arith) (c .before .before .before .before .if1 .taken) h
 
 returns-2 : tie.Need-returns-2
-returns-2 c = let a = c .before .before .args in λ k h. getD-replicate 17 k 0 0 (omega arith) ∙ sym (word-outside (a .width) (a .table .now) (a .i) k (c .if1 .left))
+returns-2 c = let a = c .before .before .args in λ k h. getD-replicate typeWidth k 0 0 (omega arith) ∙ sym (word-outside (a .width) (a .table .now) (a .i) k (c .if1 .left))
 
 pub record-words-spec : {M : Type 1} → statement M
 record-words-spec =

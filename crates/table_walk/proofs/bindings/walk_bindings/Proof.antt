@@ -91,11 +91,20 @@ returns-4 c =
     (cc (at-inside .inside .ensures, at-binding-stride .binding-stride .ensures .0, not-false (at-inside .inside .result) (at-if2 .if2 .left)))
     (omega (arith, at-code-fault .code-fault .ensures, at-if3 .if3 .left)) (cc (at-cstring-at .cstring-at .ensures .0, at-word-at .word-at .ensures, c .enum-told .given .1))
 
-in-chunk-requires : tie.Need-in-chunk-requires Inv-loop μ-loop
-in-chunk-requires c κs =
+cast-in-chunk : tie.Need-cast-in-chunk Inv-loop μ-loop
+cast-in-chunk c =
     let at-found = c .before in let at-cstring-at = at-found .before .before in
     let start = at-cstring-at .before .before .before .before .before .before .before .before .before .before .before .before in
     omega (arith, subst (Within (length (start .args .s .now))) (at-found .found .given .1) (at-cstring-at .cstring-at .ensures .1), start .pre .chunk)
+
+cast-in-chunk-2 : tie.Need-cast-in-chunk-2 Inv-loop μ-loop
+cast-in-chunk-2 c =
+    let at-found = c .before in let at-cstring-at = at-found .before .before in
+    let start = at-cstring-at .before .before .before .before .before .before .before .before .before .before .before .before in
+    omega (arith, subst (Within (length (start .args .s .now))) (at-found .found .given .1) (at-cstring-at .cstring-at .ensures .1), start .pre .chunk)
+
+in-chunk-requires : tie.Need-in-chunk-requires Inv-loop μ-loop
+in-chunk-requires c κs = search needs
 
 binding-record-requires : tie.Need-binding-record-requires Inv-loop μ-loop
 binding-record-requires c κs =
@@ -168,6 +177,8 @@ walk-bindings-spec =
     enum-told
     same-length-4
     returns-4
+    cast-in-chunk
+    cast-in-chunk-2
     in-chunk-requires
     binding-record-requires
     put-binding-requires

@@ -5,6 +5,7 @@ use mathlib.Core.Path.{sym, subst, _∙_}
 use native.Mathlib.Omega.{arith}
 use lib.ListN.{length}
 use Rattle.text.specs.Strings.{Within}
+use Rattle.reflection.specs.Strides.{bufferStride}
 use Rattle.table_walk.proofs.Range.{record-ends}
 use Rattle.table_walk.proofs.BuffersLoop.{BuffersLeft, all-left, variables-ready, ends, ends-full, ends-short, ends-named-badly, ends-below, goes-on}
 use Rattle.table_walk.proofs.buffers.walk_buffers.Statement.{statement}
@@ -40,6 +41,9 @@ returns c =
     let at-loop-test = c .before in let at-loop = at-loop-test .before in let start = at-loop .before .before .before .before .before .before in
     ends-full (start .pre) (at-loop .loop .inv) (at-loop-test .loop-test .taken) (omega (arith, c .if1 .taken))
 
+cast-inside : tie.Need-cast-inside Inv-loop μ-loop
+cast-inside c = search needs
+
 inside-requires : tie.Need-inside-requires Inv-loop μ-loop
 inside-requires c κs = search needs
 
@@ -65,7 +69,7 @@ returns-2 c =
 add-word-at : tie.Need-add-word-at Inv-loop μ-loop
 add-word-at c =
     let at-inside = c .before in let at-loop = at-inside .before .before .before in let start = at-loop .before .before .before .before .before .before in
-    omega (arith, record-ends (start .args .s .now) (at-loop .loop .at) 24 (start .pre .chunk) (at-inside .inside .result) (at-inside .inside .ensures) (c .if2 .left))
+    omega (arith, record-ends (start .args .s .now) (at-loop .loop .at) bufferStride (start .pre .chunk) (at-inside .inside .result) (at-inside .inside .ensures) (c .if2 .left))
 
 word-at-requires : tie.Need-word-at-requires Inv-loop μ-loop
 word-at-requires c κs = search needs
@@ -74,7 +78,7 @@ add-word-at-2 : tie.Need-add-word-at-2 Inv-loop μ-loop
 add-word-at-2 c =
     let at-if2 = c .before in let at-inside = at-if2 .before in let at-loop = at-inside .before .before .before in
     let start = at-loop .before .before .before .before .before .before in
-    omega (arith, record-ends (start .args .s .now) (at-loop .loop .at) 24 (start .pre .chunk) (at-inside .inside .result) (at-inside .inside .ensures) (at-if2 .if2 .left))
+    omega (arith, record-ends (start .args .s .now) (at-loop .loop .at) bufferStride (start .pre .chunk) (at-inside .inside .result) (at-inside .inside .ensures) (at-if2 .if2 .left))
 
 word-at-requires-2 : tie.Need-word-at-requires-2 Inv-loop μ-loop
 word-at-requires-2 c κs = search needs
@@ -169,17 +173,26 @@ returns-4 c =
     (at-word-at .word-at .ensures) (at-word-at2 .word-at2 .ensures) _ _ (at-answer2 .answer2 .given .1) (at-walk-variables .walk-variables .ensures)
     (cc (at-cstring-at .cstring-at .ensures .0, at-word-at3 .word-at3 .ensures, c .enum-told .given .1))
 
-in-chunk-requires : tie.Need-in-chunk-requires Inv-loop μ-loop
-in-chunk-requires c κs =
+cast-in-chunk : tie.Need-cast-in-chunk Inv-loop μ-loop
+cast-in-chunk c =
     let at-found = c .before in let at-cstring-at = at-found .before .before in
     let start = at-cstring-at .before .before .before .before .before .before .before .before .before .before .before .before .before .before .before .before .before .before .before .before .before .before .before .before .before .before .before in
     omega (arith, subst (Within (length (start .args .s .now))) (at-found .found .given .1) (at-cstring-at .cstring-at .ensures .1), start .pre .chunk)
+
+cast-in-chunk-2 : tie.Need-cast-in-chunk-2 Inv-loop μ-loop
+cast-in-chunk-2 c =
+    let at-found = c .before in let at-cstring-at = at-found .before .before in
+    let start = at-cstring-at .before .before .before .before .before .before .before .before .before .before .before .before .before .before .before .before .before .before .before .before .before .before .before .before .before .before .before in
+    omega (arith, subst (Within (length (start .args .s .now))) (at-found .found .given .1) (at-cstring-at .cstring-at .ensures .1), start .pre .chunk)
+
+in-chunk-requires : tie.Need-in-chunk-requires Inv-loop μ-loop
+in-chunk-requires c κs = search needs
 
 buffer-record-requires : tie.Need-buffer-record-requires Inv-loop μ-loop
 buffer-record-requires c κs =
     let at-if2 = c .before .before .before .before .before .before .before .before .before .before .before .before .before .before .before .before .before .before .before .before .before in
     let at-inside = at-if2 .before in let at-loop = at-inside .before .before .before in let start = at-loop .before .before .before .before .before .before in
-    omega (arith, record-ends (start .args .s .now) (at-loop .loop .at) 24 (start .pre .chunk) (at-inside .inside .result) (at-inside .inside .ensures) (at-if2 .if2 .left))
+    omega (arith, record-ends (start .args .s .now) (at-loop .loop .at) bufferStride (start .pre .chunk) (at-inside .inside .result) (at-inside .inside .ensures) (at-if2 .if2 .left))
 
 put-buffer-requires : tie.Need-put-buffer-requires Inv-loop μ-loop
 put-buffer-requires c κs = search needs
@@ -190,11 +203,14 @@ add-next c =
     let start = at-if1 .before .before .before .before .before .before .before .before in
     omega (arith, at-if1 .if1 .left, start .fits .fcap)
 
+cast-at : tie.Need-cast-at Inv-loop μ-loop
+cast-at c = search needs
+
 add-at : tie.Need-add-at Inv-loop μ-loop
 add-at c =
     let at-if2 = c .before .before .before .before .before .before .before .before .before .before .before .before .before .before .before .before .before .before .before .before .before .before .before .before .before .before in
     let at-inside = at-if2 .before in let at-loop = at-inside .before .before .before in let start = at-loop .before .before .before .before .before .before in
-    omega (arith, record-ends (start .args .s .now) (at-loop .loop .at) 24 (start .pre .chunk) (at-inside .inside .result) (at-inside .inside .ensures) (at-if2 .if2 .left))
+    omega (arith, record-ends (start .args .s .now) (at-loop .loop .at) bufferStride (start .pre .chunk) (at-inside .inside .result) (at-inside .inside .ensures) (at-if2 .if2 .left))
 
 sub-left : tie.Need-sub-left Inv-loop μ-loop
 sub-left c = omega (arith, c .before .before .before .before .before .before .before .before .before .before .before .before .before .before .before .before .before .before .before .before .before .before .before .before .before .before .before .before .before .loop-test .taken)
@@ -249,6 +265,7 @@ walk-buffers-spec =
     same-length-3
     same-length-4
     returns
+    cast-inside
     inside-requires
     same-length-5
     same-length-6
@@ -277,10 +294,13 @@ walk-buffers-spec =
     same-length-15
     same-length-16
     returns-4
+    cast-in-chunk
+    cast-in-chunk-2
     in-chunk-requires
     buffer-record-requires
     put-buffer-requires
     add-next
+    cast-at
     add-at
     sub-left
     loop-less

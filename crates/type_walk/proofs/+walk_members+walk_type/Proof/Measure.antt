@@ -3,6 +3,7 @@
 use Prim.Native.Nat.{ℕ, _+_, _<_}
 use borrow.Fn.Kinds.{In}
 use borrow.Fn.PlainCycle.{Measures, is, falls, and}
+use Rattle.reflection.proofs.in_chunk.Reads as in-chunk
 use Rattle.reflection.proofs.put_type.Reads as put-type
 use Rattle.text.proofs.cstring_at.Reads as cstring-at
 use Rattle.words.proofs.high_at.Reads as high-at
@@ -50,6 +51,8 @@ members-calls t = (
   word-at.Learnt,
   cstring-at.Asked,
   cstring-at.Learnt,
+  in-chunk.Asked,
+  in-chunk.Learnt,
   walk-type-below t,
   walk-type.Post,
 )

@@ -5,6 +5,7 @@ use native.Mathlib.Omega.{arith}
 use lib.ListN.{length}
 use Rattle.words.proofs.Parts.{inside-fits}
 use Rattle.text.specs.Strings.{cstringAt, Within}
+use Rattle.reflection.specs.Strides.{memberStride}
 use Rattle.type_walk.proofs.walk_members.Reads as own
 use Rattle.type_walk.proofs.+walk_members+walk_type.Lts-walk_members as lts
 use Rattle.type_walk.proofs.+walk_members+walk_type.Proof.Measure.{members-calls, walk-members-at, Inv-loop, μ-loop}
@@ -24,8 +25,8 @@ module _ (t : ℕ) where
     abbrev turn : lts.At-loop (members-calls t) (walk-members-at t) own.Post Inv-loop μ-loop
     turn = c .before .before .before
 
-    record-fits : turn .loop .at + 12 ≤ length (start .args .s .now)
-    record-fits = inside-fits (length (start .args .s .now)) (turn .loop .at) 12 (sym (c .before .inside .ensures) ∙ c .if1 .taken)
+    record-fits : turn .loop .at + memberStride ≤ length (start .args .s .now)
+    record-fits = inside-fits (length (start .args .s .now)) (turn .loop .at) memberStride (sym (c .before .inside .ensures) ∙ c .if1 .taken)
 
   pub add-word-at : lts.Need-add-word-at (members-calls t) (walk-members-at t) own.Post Inv-loop μ-loop
   add-word-at c =
@@ -63,17 +64,17 @@ module _ (t : ℕ) where
       is-offset = c .before .before .before .before .word-at3 .ensures;
     }
 
-  -- Its place and its length fit a word, since the chunk is no longer than 65536 bytes.
-  pub cast-place : lts.Need-cast-t28 (members-calls t) (walk-members-at t) own.Post Inv-loop μ-loop
+  -- Its place and its length fit a word, since the chunk is short enough.
+  pub cast-place : lts.Need-cast-in-chunk (members-calls t) (walk-members-at t) own.Post Inv-loop μ-loop
   cast-place c = omega (arith, name-fits c, entry c .pre .1 .chunk)
 
-  pub cast-length : lts.Need-cast-t29 (members-calls t) (walk-members-at t) own.Post Inv-loop μ-loop
+  pub cast-length : lts.Need-cast-in-chunk-2 (members-calls t) (walk-members-at t) own.Post Inv-loop μ-loop
   cast-length c = omega (arith, name-fits c, entry c .pre .1 .chunk)
 
   -- The measure of the type's walk is one less, and it is given what this walk has.
   pub walk-type-requires : lts.Need-walk-type-requires (members-calls t) (walk-members-at t) own.Post Inv-loop μ-loop
   walk-type-requires c κs =
-      let named = c .before .before in
+      let named = c .before .before .before in
       let ready = entry named .pre .1 in
       let going = this-turn named .loop .inv in (
         omega (arith, entry named .pre .0),
@@ -96,9 +97,9 @@ module _ (t : ℕ) where
   -- The walk of the member's type refused.
   pub returns-2 : lts.Need-returns-2 (members-calls t) (walk-members-at t) own.Post Inv-loop μ-loop
   returns-2 c =
-      let named = c .before .before .before .before .before .before .before .before .before .before in
+      let named = c .before .before .before .before .before .before .before .before .before .before .before in
       let walked = c .before .before .before .before .before .before .before in
-      ends-below (this-turn named .loop .inv) (member-at named) (c .before .answer .given .1) (walked .walk-type .ensures)
+      ends-below (this-turn named .loop .inv) (member-at named) (c .before .before .before .before .before .before .before .before .before .before .in-chunk .ensures) (c .before .answer .given .1) (walked .walk-type .ensures)
 
   -- The member's record runs past the chunk.
   pub returns-3 : lts.Need-returns-3 (members-calls t) (walk-members-at t) own.Post Inv-loop μ-loop
@@ -107,24 +108,24 @@ module _ (t : ℕ) where
   -- The next member.
   pub add-at : lts.Need-add-at (members-calls t) (walk-members-at t) own.Post Inv-loop μ-loop
   add-at c =
-      let named = c .before .before .before .before .before .before .before .before .before .before in
+      let named = c .before .before .before .before .before .before .before .before .before .before .before in
       omega (arith, record-fits (record-inside named), entry named .good .0 .0)
 
   pub sub-left : lts.Need-sub-left (members-calls t) (walk-members-at t) own.Post Inv-loop μ-loop
   sub-left c =
-      let named = c .before .before .before .before .before .before .before .before .before .before in
+      let named = c .before .before .before .before .before .before .before .before .before .before .before in
       omega (arith, member-at named .more)
 
   pub loop-less : lts.Need-loop-less (members-calls t) (walk-members-at t) own.Post Inv-loop μ-loop
   loop-less c =
-      let named = c .before .before .before .before .before .before .before .before .before .before in
+      let named = c .before .before .before .before .before .before .before .before .before .before .before in
       omega (arith, member-at named .more)
 
   pub loop-again : lts.Need-loop-again (members-calls t) (walk-members-at t) own.Post Inv-loop μ-loop
   loop-again c =
-      let named = c .before .before .before .before .before .before .before .before .before .before in
+      let named = c .before .before .before .before .before .before .before .before .before .before .before in
       let walked = c .before .before .before .before .before .before .before in
-      goes-on (this-turn named .loop .inv) (member-at named) (c .before .answer2 .given .1) (walked .walk-type .ensures)
+      goes-on (this-turn named .loop .inv) (member-at named) (c .before .before .before .before .before .before .before .before .before .before .in-chunk .ensures) (c .before .answer2 .given .1) (walked .walk-type .ensures)
       (walked .walk-type .kept .1 .1 .1 .1 .1 .1 .0) (walked .walk-type .kept .1 .1 .1 .1 .1 .1 .1 .0)
 
   -- No member is left.
@@ -140,12 +141,12 @@ module _ (t : ℕ) where
 
   pub same-length-3 : lts.Need-same-length-3 (members-calls t) (walk-members-at t) own.Post Inv-loop μ-loop
   same-length-3 c =
-      let named = c .before .before .before .before .before .before .before .before .before .before in
+      let named = c .before .before .before .before .before .before .before .before .before .before .before in
       c .before .before .before .before .before .before .before .walk-type .kept .1 .1 .1 .1 .1 .1 .0 ∙ this-turn named .loop .inv .types-long
 
   pub same-length-4 : lts.Need-same-length-4 (members-calls t) (walk-members-at t) own.Post Inv-loop μ-loop
   same-length-4 c =
-      let named = c .before .before .before .before .before .before .before .before .before .before in
+      let named = c .before .before .before .before .before .before .before .before .before .before .before in
       c .before .before .before .before .before .before .before .walk-type .kept .1 .1 .1 .1 .1 .1 .1 .0 ∙ this-turn named .loop .inv .path-long
 
   pub same-length-5 : lts.Need-same-length-5 (members-calls t) (walk-members-at t) own.Post Inv-loop μ-loop

@@ -4,6 +4,7 @@ use Prim.Native.Nat.{ℕ, _-_}
 use native.Mathlib.Omega.{arith}
 use lib.ListN.{length, set, length-set}
 use Rattle.words.specs.Parts.{inside}
+use Rattle.reflection.specs.Limits.{typeLevels}
 use Rattle.reflection.specs.declared.TypeDesc.{TypeDesc}
 use Rattle.reflection.specs.Records.{putRecord, typeWidth, typeWords}
 use Rattle.reading.specs.Read.{typeNameAt}
@@ -113,8 +114,8 @@ module _ (t : ℕ) where
         ≡ typeNameAt (start .args .s .now) (start .args .sm5) (start .args .at)
     name-known = c .before .before .before .before .before .before .before .before .type-name-at .ensures .0
 
-    path-same : (x : ℕ) → length (set (start .args .path .now) (65 - start .args .levels) x) ≡ length (start .args .path .now)
-    path-same x = length-set (start .args .path .now) (65 - start .args .levels) x
+    path-same : (x : ℕ) → length (set (start .args .path .now) (typeLevels - start .args .levels) x) ≡ length (start .args .path .now)
+    path-same x = length-set (start .args .path .now) (typeLevels - start .args .levels) x
 
   -- The members: one level deeper, from node n + 1 on.
   pub sub-walk-members : lts.Need-sub-walk-members (type-calls t) (walk-type-at t) own.Post
