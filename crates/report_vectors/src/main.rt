@@ -7,7 +7,7 @@ use reflection::CHUNK_LIMIT;
 use reflection::TYPE_TABLE;
 use reflection::VARIABLE_TABLE;
 
-// No chunk of the input is longer, so that some too long to be read are among them.
+// The longest chunk that the input may have. It is longer than any that is read, so that some which are too long can be among them.
 const LONGEST: usize = 2 * CHUNK_LIMIT;
 
 // The length of no chunk.
@@ -20,7 +20,7 @@ fn next_word() -> u32 {
     words::word_at(&bytes[..n], 0)
 }
 
-// The next chunk of standard input into `chunk`: its length, or `NONE` where there is no room for it or the input ends before it does.
+// Reads the next chunk of standard input into `chunk`. Answers its length, or `NONE` where there is no room for it or the input ends within it.
 fn next_chunk(chunk: &mut [u8]) -> usize {
     let length = next_word() as usize;
     if chunk.len() < length {
@@ -30,7 +30,7 @@ fn next_chunk(chunk: &mut [u8]) -> usize {
     if n < length { NONE } else { length }
 }
 
-// Prints the report of each chunk. An input that is cut, or that has a longer chunk, is a bad one.
+// Prints the report of each chunk. An input that ends within a chunk, or that has a longer one, is bad.
 fn reports(
     chunk: &mut [u8; LONGEST],
     bindings: &mut [u32; BINDING_TABLE],
