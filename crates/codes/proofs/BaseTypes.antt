@@ -1,11 +1,10 @@
--- BaseType is the rows of D3D_SHADER_VARIABLE_TYPE that have a spelling, and its numbers are 1, 2, 3, 19 and 39: computed over the table, once for each.
+-- BaseType is five rows of D3D_SHADER_VARIABLE_TYPE, and its numbers are 1, 2, 3, 19 and 39: computed over the rows, once for each.
 use mathlib.Core.List.{List, [], _∷_}
 use mathlib.Core.Option.{some}
 use mathlib.Core.Path.{_≡_, refl, ap, _∙_}
 use Prim.Native.Nat.{ℕ}
 use Rattle.codes.specs.Table.{lookup, known, isRow}
-use Rattle.codes.specs.Microsoft.{variableTypes}
-use Rattle.codes.specs.Variable.{spelled, baseTypes, baseTypeRow, baseTypeAnswer}
+use Rattle.codes.specs.Variable.{baseTypes, baseTypeRow, baseTypeAnswer}
 use Rattle.codes.specs.declared.variable.BaseType.{BaseType}
 use Rattle.codes.specs.declared.variable.BaseType.the-variants.{Bool, Int, Float, Uint, Double}
 use Rattle.codes.specs.declared.variable.BaseTypeCode.{BaseTypeCode}
@@ -31,7 +30,7 @@ found Uint = refl
 found Double = refl
 
 pub base-type-rows : Rows baseTypes baseTypeRow cases
-unfolding baseTypes spelled variableTypes
+unfolding baseTypes
 base-type-rows = record { table-is-rows = refl; found = found }
 
 pub base-type-both-ways : BothWays baseTypes baseTypeRow baseTypeAnswer Known
@@ -39,7 +38,7 @@ base-type-both-ways = both-ways base-type-rows baseTypeAnswer Known Unknown (λ 
 
 -- The numbers that have a spelling.
 pub base-type-known : (n : ℕ) → known baseTypes n ≡ oneOf (1 ∷ 2 ∷ 3 ∷ 19 ∷ 39 ∷ []) n
-unfolding baseTypes spelled variableTypes
+unfolding baseTypes
 base-type-known = known-one-of baseTypes
 
 -- The answer of from_u32 is a row exactly for those.

@@ -1,9 +1,10 @@
--- Microsoft's numbers (d3dcommon.h): each enumeration with its enumerators, then the table of their numbers; of the flags, their masks. Nothing here
--- speaks of the port.
-use mathlib.Core.List.{[], _∷_}
+-- Microsoft's numbers (d3dcommon.h): each enumeration with all its enumerators and their numbers; of the flags, the masks. Every name and number was
+-- compared by a program with that header as Microsoft publishes it (docs/DIFFERENCES.md, "Microsoft's pages"). Nothing here speaks of the port.
+use mathlib.Core.List.{[], _∷_, map}
 use Prim.Native.Nat.{ℕ}
 use Rattle.codes.specs.Table.{Table}
 
+-- From d3dcommon.h; the Rust has all (`ResourceInputType`).
 pub data «D3D_SHADER_INPUT_TYPE» : Type 0 where
   «D3D_SIT_CBUFFER» : «D3D_SHADER_INPUT_TYPE»
   «D3D_SIT_TBUFFER» : «D3D_SHADER_INPUT_TYPE»
@@ -38,6 +39,7 @@ inputTypes =
     ∷ («D3D_SIT_UAV_FEEDBACKTEXTURE», 13)
     ∷ []
 
+-- From d3dcommon.h; the Rust has all (`ResourceDimension`).
 pub data «D3D_SRV_DIMENSION» : Type 0 where
   «D3D_SRV_DIMENSION_UNKNOWN» : «D3D_SRV_DIMENSION»
   «D3D_SRV_DIMENSION_BUFFER» : «D3D_SRV_DIMENSION»
@@ -68,6 +70,7 @@ srvDimensions =
     ∷ («D3D_SRV_DIMENSION_BUFFEREX», 11)
     ∷ []
 
+-- From d3dcommon.h; the Rust has the numbers 0 to 3 and 5, without names, where it spells a type.
 pub data «D3D_SHADER_VARIABLE_CLASS» : Type 0 where
   «D3D_SVC_SCALAR» : «D3D_SHADER_VARIABLE_CLASS»
   «D3D_SVC_VECTOR» : «D3D_SHADER_VARIABLE_CLASS»
@@ -78,19 +81,30 @@ pub data «D3D_SHADER_VARIABLE_CLASS» : Type 0 where
   «D3D_SVC_INTERFACE_CLASS» : «D3D_SHADER_VARIABLE_CLASS»
   «D3D_SVC_INTERFACE_POINTER» : «D3D_SHADER_VARIABLE_CLASS»
 
+abbrev pub variableClassNumber : «D3D_SHADER_VARIABLE_CLASS» → ℕ
+variableClassNumber «D3D_SVC_SCALAR» = 0
+variableClassNumber «D3D_SVC_VECTOR» = 1
+variableClassNumber «D3D_SVC_MATRIX_ROWS» = 2
+variableClassNumber «D3D_SVC_MATRIX_COLUMNS» = 3
+variableClassNumber «D3D_SVC_OBJECT» = 4
+variableClassNumber «D3D_SVC_STRUCT» = 5
+variableClassNumber «D3D_SVC_INTERFACE_CLASS» = 6
+variableClassNumber «D3D_SVC_INTERFACE_POINTER» = 7
+
 unfoldable pub variableClasses : Table «D3D_SHADER_VARIABLE_CLASS»
 variableClasses =
-    («D3D_SVC_SCALAR», 0)
-    ∷ («D3D_SVC_VECTOR», 1)
-    ∷ («D3D_SVC_MATRIX_ROWS», 2)
-    ∷ («D3D_SVC_MATRIX_COLUMNS», 3)
-    ∷ («D3D_SVC_OBJECT», 4)
-    ∷ («D3D_SVC_STRUCT», 5)
-    ∷ («D3D_SVC_INTERFACE_CLASS», 6)
-    ∷ («D3D_SVC_INTERFACE_POINTER», 7)
-    ∷ []
+    map (λ (class : «D3D_SHADER_VARIABLE_CLASS»). (class, variableClassNumber class))
+    («D3D_SVC_SCALAR»
+    ∷ «D3D_SVC_VECTOR»
+    ∷ «D3D_SVC_MATRIX_ROWS»
+    ∷ «D3D_SVC_MATRIX_COLUMNS»
+    ∷ «D3D_SVC_OBJECT»
+    ∷ «D3D_SVC_STRUCT»
+    ∷ «D3D_SVC_INTERFACE_CLASS»
+    ∷ «D3D_SVC_INTERFACE_POINTER»
+    ∷ [])
 
--- The types that have a spelling, and some that have none. Microsoft's enumeration goes on; none of the others has a spelling.
+-- From d3dcommon.h; the Rust has the numbers 1, 2, 3, 19 and 39, those that it spells (`base_type_name`).
 pub data «D3D_SHADER_VARIABLE_TYPE» : Type 0 where
   «D3D_SVT_VOID» : «D3D_SHADER_VARIABLE_TYPE»
   «D3D_SVT_BOOL» : «D3D_SHADER_VARIABLE_TYPE»
@@ -103,29 +117,125 @@ pub data «D3D_SHADER_VARIABLE_TYPE» : Type 0 where
   «D3D_SVT_TEXTURE3D» : «D3D_SHADER_VARIABLE_TYPE»
   «D3D_SVT_TEXTURECUBE» : «D3D_SHADER_VARIABLE_TYPE»
   «D3D_SVT_SAMPLER» : «D3D_SHADER_VARIABLE_TYPE»
+  «D3D_SVT_SAMPLER1D» : «D3D_SHADER_VARIABLE_TYPE»
+  «D3D_SVT_SAMPLER2D» : «D3D_SHADER_VARIABLE_TYPE»
+  «D3D_SVT_SAMPLER3D» : «D3D_SHADER_VARIABLE_TYPE»
+  «D3D_SVT_SAMPLERCUBE» : «D3D_SHADER_VARIABLE_TYPE»
+  «D3D_SVT_PIXELSHADER» : «D3D_SHADER_VARIABLE_TYPE»
+  «D3D_SVT_VERTEXSHADER» : «D3D_SHADER_VARIABLE_TYPE»
+  «D3D_SVT_PIXELFRAGMENT» : «D3D_SHADER_VARIABLE_TYPE»
+  «D3D_SVT_VERTEXFRAGMENT» : «D3D_SHADER_VARIABLE_TYPE»
   «D3D_SVT_UINT» : «D3D_SHADER_VARIABLE_TYPE»
   «D3D_SVT_UINT8» : «D3D_SHADER_VARIABLE_TYPE»
+  «D3D_SVT_GEOMETRYSHADER» : «D3D_SHADER_VARIABLE_TYPE»
+  «D3D_SVT_RASTERIZER» : «D3D_SHADER_VARIABLE_TYPE»
+  «D3D_SVT_DEPTHSTENCIL» : «D3D_SHADER_VARIABLE_TYPE»
+  «D3D_SVT_BLEND» : «D3D_SHADER_VARIABLE_TYPE»
+  «D3D_SVT_BUFFER» : «D3D_SHADER_VARIABLE_TYPE»
+  «D3D_SVT_CBUFFER» : «D3D_SHADER_VARIABLE_TYPE»
+  «D3D_SVT_TBUFFER» : «D3D_SHADER_VARIABLE_TYPE»
+  «D3D_SVT_TEXTURE1DARRAY» : «D3D_SHADER_VARIABLE_TYPE»
+  «D3D_SVT_TEXTURE2DARRAY» : «D3D_SHADER_VARIABLE_TYPE»
+  «D3D_SVT_RENDERTARGETVIEW» : «D3D_SHADER_VARIABLE_TYPE»
+  «D3D_SVT_DEPTHSTENCILVIEW» : «D3D_SHADER_VARIABLE_TYPE»
+  «D3D_SVT_TEXTURE2DMS» : «D3D_SHADER_VARIABLE_TYPE»
+  «D3D_SVT_TEXTURE2DMSARRAY» : «D3D_SHADER_VARIABLE_TYPE»
+  «D3D_SVT_TEXTURECUBEARRAY» : «D3D_SHADER_VARIABLE_TYPE»
+  «D3D_SVT_HULLSHADER» : «D3D_SHADER_VARIABLE_TYPE»
+  «D3D_SVT_DOMAINSHADER» : «D3D_SHADER_VARIABLE_TYPE»
+  «D3D_SVT_INTERFACE_POINTER» : «D3D_SHADER_VARIABLE_TYPE»
+  «D3D_SVT_COMPUTESHADER» : «D3D_SHADER_VARIABLE_TYPE»
   «D3D_SVT_DOUBLE» : «D3D_SHADER_VARIABLE_TYPE»
+  «D3D_SVT_RWTEXTURE1D» : «D3D_SHADER_VARIABLE_TYPE»
+  «D3D_SVT_RWTEXTURE1DARRAY» : «D3D_SHADER_VARIABLE_TYPE»
+  «D3D_SVT_RWTEXTURE2D» : «D3D_SHADER_VARIABLE_TYPE»
+  «D3D_SVT_RWTEXTURE2DARRAY» : «D3D_SHADER_VARIABLE_TYPE»
+  «D3D_SVT_RWTEXTURE3D» : «D3D_SHADER_VARIABLE_TYPE»
+  «D3D_SVT_RWBUFFER» : «D3D_SHADER_VARIABLE_TYPE»
+  «D3D_SVT_BYTEADDRESS_BUFFER» : «D3D_SHADER_VARIABLE_TYPE»
+  «D3D_SVT_RWBYTEADDRESS_BUFFER» : «D3D_SHADER_VARIABLE_TYPE»
+  «D3D_SVT_STRUCTURED_BUFFER» : «D3D_SHADER_VARIABLE_TYPE»
+  «D3D_SVT_RWSTRUCTURED_BUFFER» : «D3D_SHADER_VARIABLE_TYPE»
+  «D3D_SVT_APPEND_STRUCTURED_BUFFER» : «D3D_SHADER_VARIABLE_TYPE»
+  «D3D_SVT_CONSUME_STRUCTURED_BUFFER» : «D3D_SHADER_VARIABLE_TYPE»
+  «D3D_SVT_MIN8FLOAT» : «D3D_SHADER_VARIABLE_TYPE»
+  «D3D_SVT_MIN10FLOAT» : «D3D_SHADER_VARIABLE_TYPE»
+  «D3D_SVT_MIN16FLOAT» : «D3D_SHADER_VARIABLE_TYPE»
+  «D3D_SVT_MIN12INT» : «D3D_SHADER_VARIABLE_TYPE»
+  «D3D_SVT_MIN16INT» : «D3D_SHADER_VARIABLE_TYPE»
+  «D3D_SVT_MIN16UINT» : «D3D_SHADER_VARIABLE_TYPE»
+  «D3D_SVT_INT16» : «D3D_SHADER_VARIABLE_TYPE»
+  «D3D_SVT_UINT16» : «D3D_SHADER_VARIABLE_TYPE»
+  «D3D_SVT_FLOAT16» : «D3D_SHADER_VARIABLE_TYPE»
+  «D3D_SVT_INT64» : «D3D_SHADER_VARIABLE_TYPE»
+  «D3D_SVT_UINT64» : «D3D_SHADER_VARIABLE_TYPE»
 
-unfoldable pub variableTypes : Table «D3D_SHADER_VARIABLE_TYPE»
-variableTypes =
-    («D3D_SVT_VOID», 0)
-    ∷ («D3D_SVT_BOOL», 1)
-    ∷ («D3D_SVT_INT», 2)
-    ∷ («D3D_SVT_FLOAT», 3)
-    ∷ («D3D_SVT_STRING», 4)
-    ∷ («D3D_SVT_TEXTURE», 5)
-    ∷ («D3D_SVT_TEXTURE1D», 6)
-    ∷ («D3D_SVT_TEXTURE2D», 7)
-    ∷ («D3D_SVT_TEXTURE3D», 8)
-    ∷ («D3D_SVT_TEXTURECUBE», 9)
-    ∷ («D3D_SVT_SAMPLER», 10)
-    ∷ («D3D_SVT_UINT», 19)
-    ∷ («D3D_SVT_UINT8», 20)
-    ∷ («D3D_SVT_DOUBLE», 39)
-    ∷ []
+abbrev pub variableTypeNumber : «D3D_SHADER_VARIABLE_TYPE» → ℕ
+variableTypeNumber «D3D_SVT_VOID» = 0
+variableTypeNumber «D3D_SVT_BOOL» = 1
+variableTypeNumber «D3D_SVT_INT» = 2
+variableTypeNumber «D3D_SVT_FLOAT» = 3
+variableTypeNumber «D3D_SVT_STRING» = 4
+variableTypeNumber «D3D_SVT_TEXTURE» = 5
+variableTypeNumber «D3D_SVT_TEXTURE1D» = 6
+variableTypeNumber «D3D_SVT_TEXTURE2D» = 7
+variableTypeNumber «D3D_SVT_TEXTURE3D» = 8
+variableTypeNumber «D3D_SVT_TEXTURECUBE» = 9
+variableTypeNumber «D3D_SVT_SAMPLER» = 10
+variableTypeNumber «D3D_SVT_SAMPLER1D» = 11
+variableTypeNumber «D3D_SVT_SAMPLER2D» = 12
+variableTypeNumber «D3D_SVT_SAMPLER3D» = 13
+variableTypeNumber «D3D_SVT_SAMPLERCUBE» = 14
+variableTypeNumber «D3D_SVT_PIXELSHADER» = 15
+variableTypeNumber «D3D_SVT_VERTEXSHADER» = 16
+variableTypeNumber «D3D_SVT_PIXELFRAGMENT» = 17
+variableTypeNumber «D3D_SVT_VERTEXFRAGMENT» = 18
+variableTypeNumber «D3D_SVT_UINT» = 19
+variableTypeNumber «D3D_SVT_UINT8» = 20
+variableTypeNumber «D3D_SVT_GEOMETRYSHADER» = 21
+variableTypeNumber «D3D_SVT_RASTERIZER» = 22
+variableTypeNumber «D3D_SVT_DEPTHSTENCIL» = 23
+variableTypeNumber «D3D_SVT_BLEND» = 24
+variableTypeNumber «D3D_SVT_BUFFER» = 25
+variableTypeNumber «D3D_SVT_CBUFFER» = 26
+variableTypeNumber «D3D_SVT_TBUFFER» = 27
+variableTypeNumber «D3D_SVT_TEXTURE1DARRAY» = 28
+variableTypeNumber «D3D_SVT_TEXTURE2DARRAY» = 29
+variableTypeNumber «D3D_SVT_RENDERTARGETVIEW» = 30
+variableTypeNumber «D3D_SVT_DEPTHSTENCILVIEW» = 31
+variableTypeNumber «D3D_SVT_TEXTURE2DMS» = 32
+variableTypeNumber «D3D_SVT_TEXTURE2DMSARRAY» = 33
+variableTypeNumber «D3D_SVT_TEXTURECUBEARRAY» = 34
+variableTypeNumber «D3D_SVT_HULLSHADER» = 35
+variableTypeNumber «D3D_SVT_DOMAINSHADER» = 36
+variableTypeNumber «D3D_SVT_INTERFACE_POINTER» = 37
+variableTypeNumber «D3D_SVT_COMPUTESHADER» = 38
+variableTypeNumber «D3D_SVT_DOUBLE» = 39
+variableTypeNumber «D3D_SVT_RWTEXTURE1D» = 40
+variableTypeNumber «D3D_SVT_RWTEXTURE1DARRAY» = 41
+variableTypeNumber «D3D_SVT_RWTEXTURE2D» = 42
+variableTypeNumber «D3D_SVT_RWTEXTURE2DARRAY» = 43
+variableTypeNumber «D3D_SVT_RWTEXTURE3D» = 44
+variableTypeNumber «D3D_SVT_RWBUFFER» = 45
+variableTypeNumber «D3D_SVT_BYTEADDRESS_BUFFER» = 46
+variableTypeNumber «D3D_SVT_RWBYTEADDRESS_BUFFER» = 47
+variableTypeNumber «D3D_SVT_STRUCTURED_BUFFER» = 48
+variableTypeNumber «D3D_SVT_RWSTRUCTURED_BUFFER» = 49
+variableTypeNumber «D3D_SVT_APPEND_STRUCTURED_BUFFER» = 50
+variableTypeNumber «D3D_SVT_CONSUME_STRUCTURED_BUFFER» = 51
+variableTypeNumber «D3D_SVT_MIN8FLOAT» = 52
+variableTypeNumber «D3D_SVT_MIN10FLOAT» = 53
+variableTypeNumber «D3D_SVT_MIN16FLOAT» = 54
+variableTypeNumber «D3D_SVT_MIN12INT» = 55
+variableTypeNumber «D3D_SVT_MIN16INT» = 56
+variableTypeNumber «D3D_SVT_MIN16UINT» = 57
+variableTypeNumber «D3D_SVT_INT16» = 58
+variableTypeNumber «D3D_SVT_UINT16» = 59
+variableTypeNumber «D3D_SVT_FLOAT16» = 60
+variableTypeNumber «D3D_SVT_INT64» = 61
+variableTypeNumber «D3D_SVT_UINT64» = 62
 
--- D3D_SHADER_INPUT_FLAGS, the masks of a binding's flags.
+-- D3D_SHADER_INPUT_FLAGS, the masks of a binding's flags. From d3dcommon.h; the Rust has all (`SIF_..`).
 abbrev pub «D3D_SIF_USERPACKED» : ℕ
 «D3D_SIF_USERPACKED» = 0x1
 
@@ -144,7 +254,7 @@ abbrev pub «D3D_SIF_TEXTURE_COMPONENTS» : ℕ
 abbrev pub «D3D_SIF_UNUSED» : ℕ
 «D3D_SIF_UNUSED» = 0x10
 
--- D3D_SHADER_VARIABLE_FLAGS, the masks of a variable's flags.
+-- D3D_SHADER_VARIABLE_FLAGS, the masks of a variable's flags. From d3dcommon.h; the Rust has 0x2 (`SVF_USED`).
 abbrev pub «D3D_SVF_USERPACKED» : ℕ
 «D3D_SVF_USERPACKED» = 0x1
 
