@@ -1,3 +1,4 @@
 pub mod Written
 pub mod Digits
 pub mod Ascii
+pub mod Printable

@@ -8,8 +8,10 @@ ghost use Rattle.reflection.specs.Outcome.{refused, because};
 ghost use Rattle.emit.specs.Written.{farthest, writtenOf, outputOf, finished, kept};
 use reflection::Refusal;
 
+mod name;
 mod number;
 
+pub use name::printable;
 pub use number::put_decimal;
 pub use number::put_hex;
 

@@ -2,12 +2,12 @@
 use mathlib.Core.Path.{_≡_, refl, ap, sym, _∙_}
 use mathlib.Core.Bool.{Bool, cond}
 use mathlib.Core.List.{List, [], _∷_, _++_, append-assoc}
-use Prim.Native.Nat.{ℕ, _/_, _%_, _<_}
+use Prim.Native.Nat.{ℕ, _<_}
 use native.Mathlib.Omega.{arith}
 use borrow.Author.Tests.{eq-eqb, ne-eqb}
-use lib.Dec.{eqb}
 use lib.ListN.{length}
 use Rattle.words.specs.Splice.{Put, put-then}
+use Rattle.codes.specs.Microsoft.{«D3D_SIF_USERPACKED», «D3D_SIF_COMPARISON_SAMPLER», «D3D_SIF_TEXTURE_COMPONENT_0», «D3D_SIF_TEXTURE_COMPONENT_1», «D3D_SIF_UNUSED»}
 use Rattle.codes.specs.Flags.{flag}
 use Rattle.emit.specs.Digits.{hex}
 use Rattle.emit.specs.Ascii.{ascii}
@@ -36,32 +36,25 @@ put-next [] name p other some q = let none : ⊥ = omega (arith, p .next) in abs
 put-next (x ∷ xs) [] p other some q = let none : ⊥ = omega arith in absurd none
 put-next (x ∷ xs) (y ∷ ys) p other some q = put-then p q
 
--- a name joined to those before it where its flag is set; and so for each bit of w, the lowest first
+-- a name joined to those before it where its flag is set; and so for each row of a table of flags
 abbrev joinedWhere : List ℕ → Bool → List ℕ → List ℕ
 joinedWhere before set name = joinedBy 59 before (cond set name [])
 
-abbrev fromLeft : List ℕ → List (List ℕ) → ℕ → List ℕ
+abbrev fromLeft : List ℕ → List (ℕ × List ℕ) → ℕ → List ℕ
 fromLeft before [] w = before
-fromLeft before (name ∷ names) w = fromLeft (joinedWhere before (eqb (w % 2) 1) name) names (w / 2)
+fromLeft before (row ∷ rows) w = fromLeft (joinedWhere before (flag (row .0) w) (row .1)) rows w
 
-from-left : (before : List ℕ) (names : List (List ℕ)) (w : ℕ) → fromLeft before names w ≡ joinedBy 59 before (setNames names w)
+from-left : (before : List ℕ) (rows : List (ℕ × List ℕ)) (w : ℕ) → fromLeft before rows w ≡ joinedBy 59 before (setNames rows w)
 unfolding setNames
 from-left before [] w = sym (joined-nil 59 before)
-from-left before (name ∷ names) w =
-    from-left (joinedWhere before (eqb (w % 2) 1) name) names (w / 2) ∙ joined-assoc 59 before (cond (eqb (w % 2) 1) name []) (setNames names (w / 2))
+from-left before (row ∷ rows) w =
+    from-left (joinedWhere before (flag (row .0) w) (row .1)) rows w ∙ joined-assoc 59 before (cond (flag (row .0) w) (row .1) []) (setNames rows w)
 
-same-test : {k m : ℕ} → k ≡ m → eqb (k % 2) 1 ≡ eqb (m % 2) 1
-same-test e = ap (λ (k : ℕ). eqb (k % 2) 1) e
-
-pub five-joined : (w : ℕ) {a b c d e : Bool} → a ≡ flag 0x1 w → b ≡ flag 0x2 w → c ≡ flag 0x4 w → d ≡ flag 0x8 w → e ≡ flag 0x10 w
+pub five-joined : (w : ℕ) {a b c d e : Bool} → a ≡ flag «D3D_SIF_USERPACKED» w → b ≡ flag «D3D_SIF_COMPARISON_SAMPLER» w
+    → c ≡ flag «D3D_SIF_TEXTURE_COMPONENT_0» w → d ≡ flag «D3D_SIF_TEXTURE_COMPONENT_1» w → e ≡ flag «D3D_SIF_UNUSED» w
     → joinedWhere (joinedWhere (joinedWhere (joinedWhere (joinedWhere [] a (ascii "userPacked")) b (ascii "comparisonSampler")) c (ascii "texComp0")) d (ascii "texComp1")) e (ascii "unused")
     ≡ setNames flagNames w
-five-joined w pa pb pc pd pe =
-    let bit0 : w / 1 ≡ w = omega arith in
-    let bit2 : w / 4 ≡ w / 2 / 2 = omega arith in
-    let bit3 : w / 8 ≡ w / 2 / 2 / 2 = omega arith in
-    let bit4 : w / 16 ≡ w / 2 / 2 / 2 / 2 = omega arith in
-    rw (pa ∙ same-test bit0, pb, pc ∙ same-test bit2, pd ∙ same-test bit3, pe ∙ same-test bit4) (from-left [] flagNames w)
+five-joined w pa pb pc pd pe = rw (pa, pb, pc, pd, pe) (from-left [] flagNames w)
 
 -- the flags by whether any name was written
 or-hex-some : (w : ℕ) (names : List ℕ) → 0 < length names → orHex w names ≡ names

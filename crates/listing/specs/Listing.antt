@@ -3,14 +3,16 @@ use mathlib.Core.Bool.{_&&_, cond}
 use mathlib.Core.List.{List, [], _∷_, _++_}
 use Prim.Native.Nat.{ℕ, suc, _+_, _-_, _/_, _%_}
 use lib.Dec.{eqb, leb}
-use lib.ListN.{getD, replicate}
-use Rattle.text.specs.Utf8.{wellFormed}
+use lib.ListN.{replicate}
+use Rattle.codes.specs.Flags.{flag}
 use Rattle.reflection.specs.declared.ResourceBinding.{ResourceBinding}
 use Rattle.reflection.specs.Outcome.{Outcome, ok, refused, because}
-use Rattle.reflection.specs.Texts.{inPlace, textBytes}
+use Rattle.reflection.specs.Refusals.{notReadable}
+use Rattle.reflection.specs.Texts.{textBytes}
 use Rattle.emit.specs.Digits.{decimal, hex}
 use Rattle.emit.specs.Ascii.{ascii}
-use Rattle.listing.specs.Names.{inputTypeNames, dimensionNames, unknown, notApplicable, flagNames}
+use Rattle.emit.specs.Printable.{printable}
+use Rattle.listing.specs.Names.{listedInputType, listedDimension, flagNames}
 
 -- How many Unicode scalar values well-formed UTF-8 has: as many as bytes that do not continue a sequence (80..BF).
 unfoldable pub scalars : List ℕ → ℕ
@@ -27,10 +29,10 @@ joinedBy c [] others = others
 joinedBy c (b ∷ bs) [] = b ∷ bs
 joinedBy c (b ∷ bs) (x ∷ xs) = (b ∷ bs) ++ (c ∷ x ∷ xs)
 
--- The names of the bits that are set, the lowest bit's first, joined by `;`.
-unfoldable pub setNames : List (List ℕ) → ℕ → List ℕ
+-- The names of the flags that a word has, in the table's order, joined by `;`.
+unfoldable pub setNames : List (ℕ × List ℕ) → ℕ → List ℕ
 setNames [] w = []
-setNames (name ∷ names) w = joinedBy 59 (cond (eqb (w % 2) 1) name []) (setNames names (w / 2))
+setNames (row ∷ rows) w = joinedBy 59 (cond (flag (row .0) w) (row .1) []) (setNames rows w)
 
 -- The names of the flags; `0x` and hex where no bit has a name.
 abbrev pub orHex : ℕ → List ℕ → List ℕ
@@ -44,17 +46,17 @@ flagsPart w = cond (eqb w 0) [] (32 ∷ orHex w (setNames flagNames w))
 -- The columns after the name: type name, dimension, slot, count, flags.
 unfoldable pub columns : ResourceBinding → List ℕ
 columns b =
-    padTo 12 (getD inputTypeNames (b .«input_type») unknown) ++ (32
-    ∷ (padTo 8 (getD dimensionNames (b .dimension) notApplicable) ++ (32
+    padTo 12 (listedInputType (b .«input_type»)) ++ (32
+    ∷ (padTo 8 (listedDimension (b .dimension)) ++ (32
     ∷ (padTo 4 (decimal (b .«bind_point»)) ++ (32
     ∷ (padTo 5 (decimal (b .«bind_count»)) ++ flagsPart (b .flags .0)))))))
 
--- The line, or 16 where the name is out of place or not UTF-8. Any other numbers are listed.
+-- The line, or a refusal where the name cannot be printed. Any other numbers are listed.
 unfoldable pub listed : List ℕ → List ℕ → ResourceBinding → Outcome (List ℕ)
 listed chunk edits b =
-    cond (inPlace chunk edits (b .name) && wellFormed (textBytes chunk edits (b .name)))
+    cond (printable chunk edits (b .name))
     (ok (padTo 20 (textBytes chunk edits (b .name)) ++ (32 ∷ columns b)))
-    (refused (because 16))
+    (refused (because notReadable))
 
 -- How many components a texture returns: 1 plus the number in flag bits 2 and 3.
 abbrev pub componentCount : ℕ → ℕ

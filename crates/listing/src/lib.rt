@@ -35,7 +35,7 @@ fn put_line(out: &mut [u8], name: &[u8], b: ResourceBinding) -> usize
     put_columns(out, after_name, b)
 }
 
-// Writes the line of a binding. 16 where its name is out of place or not UTF-8; any numbers are listed.
+// Writes the line of a binding, or refuses where its name is out of place or not UTF-8; any numbers are listed.
 pub fn list_binding<'a>(
     chunk: &'a [u8],
     edits: &'a [u8],
@@ -46,14 +46,10 @@ pub fn list_binding<'a>(
     ensures out { λ _. ⌜ now (out .exit) ≡ outputOf (fitting (length (now (out .entry))) (listed (now (chunk .entry)) (now (edits .entry)) b)) (now (out .entry)) ⌝ }
 {
     let text = b.name;
-    if !reflection::in_place(chunk, edits, text) {
-        return emit::refuse(out, 16);
+    if !emit::printable(chunk, edits, text) {
+        return emit::refuse(out, reflection::NOT_READABLE);
     }
-    let name = reflection::name_part(chunk, edits, text);
-    if !text::utf8_ok(name) {
-        return emit::refuse(out, 16);
-    }
-    let end = put_line(out, name, b);
+    let end = put_line(out, reflection::name_part(chunk, edits, text), b);
     emit::finish(out, end)
 }
 

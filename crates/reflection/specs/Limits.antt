@@ -18,6 +18,10 @@ typeRoom = 4096
 abbrev pub chunkLimit : ℕ
 chunkLimit = 65536
 
+-- A number of 16 bits is below this.
+abbrev pub u16Limit : ℕ
+u16Limit = 65536
+
 -- The widths of the tables' records, in words.
 abbrev pub bindingWidth : ℕ
 bindingWidth = 12

@@ -21,6 +21,7 @@ pub use limits::TYPE_LEVELS;
 pub use limits::TYPE_ROOM;
 pub use limits::TYPE_TABLE;
 pub use limits::TYPE_WORDS;
+pub use limits::U16_LIMIT;
 pub use limits::VARIABLE_ROOM;
 pub use limits::VARIABLE_TABLE;
 pub use limits::VARIABLE_WORDS;

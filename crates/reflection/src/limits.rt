@@ -32,5 +32,8 @@ pub const TYPE_TABLE: usize = TYPE_ROOM * TYPE_WORDS;
 // The root of a type stands at depth 0 and the deepest node at 64.
 pub const TYPE_LEVELS: usize = 65;
 
+// A number of 16 bits is below this.
+pub const U16_LIMIT: u32 = 65536;
+
 // How many bytes a chunk, a text of edits and an output may have.
 pub const CHUNK_LIMIT: usize = 65536;

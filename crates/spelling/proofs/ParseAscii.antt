@@ -13,12 +13,14 @@ use Rattle.text.specs.Same.{sameBytes}
 use Rattle.text.proofs.Bools.{and-true}
 use Rattle.text.proofs.Runs.{well-formed-ascii}
 use Rattle.text.proofs.SameBytes.{same-bytes-equal}
+use Rattle.codes.specs.Microsoft.{«D3D_SHADER_VARIABLE_TYPE», variableTypeNumber}
 use Rattle.reflection.specs.Nodes.{_>>=_}
 use Rattle.reflection.specs.Outcome.{because}
+use Rattle.reflection.specs.Refusals.{noSpelling}
 use Rattle.spelling.specs.declared.TypeSpelling.{TypeSpelling}
 use Rattle.spelling.specs.declared.SpelledType.the-variants.{Refused}
 use Rattle.spelling.specs.Names.{baseNames, numberIn, baseNumber}
-use Rattle.spelling.specs.Grammar.{isDigit, digitsValue, digitsNumber, withoutPlus, below65536, number, afterByte, splitOnce, withoutLast, beforeDigit, fromDigit, Shape, shapeOf, shape, core, typeFrom, parseType, spelledType}
+use Rattle.spelling.specs.Grammar.{isDigit, digitsValue, digitsNumber, withoutPlus, asU16, number, afterByte, splitOnce, withoutLast, beforeDigit, fromDigit, Shape, shapeOf, shape, core, typeFrom, parseType, spelledType}
 
 -- Every byte is below 0x80.
 unfoldable ascii : List ℕ → Bool
@@ -77,22 +79,22 @@ without-plus-ascii (b ∷ bs) e = go (eqb b 43) refl e
 number-ascii : (s : List ℕ) {v : ℕ} → number s ≡ some v → ascii s ≡ true
 unfolding number
 number-ascii s e =
-    let (n, digits, small) = first-gives (digitsNumber (withoutPlus s)) below65536 e in
+    let (n, digits, small) = first-gives (digitsNumber (withoutPlus s)) asU16 e in
     without-plus-ascii s (digits-number-ascii (withoutPlus s) digits)
 
 -- The names of the base types.
-asciiNames : List (ℕ × List ℕ) → Bool
+asciiNames : List («D3D_SHADER_VARIABLE_TYPE» × List ℕ) → Bool
 asciiNames [] = true
 asciiNames (row ∷ rows) = ascii (row .1) && asciiNames rows
 
-named-ascii : (rows : List (ℕ × List ℕ)) (s : List ℕ) {n : ℕ} → asciiNames rows ≡ true → numberIn rows s ≡ some n → ascii s ≡ true
+named-ascii : (rows : List («D3D_SHADER_VARIABLE_TYPE» × List ℕ)) (s : List ℕ) {n : ℕ} → asciiNames rows ≡ true → numberIn rows s ≡ some n → ascii s ≡ true
 unfolding asciiNames
 named-ascii [] s names e = cc
 named-ascii (row ∷ rows) s {n} names e =
     let (here, later) = and-true (ascii (row .1)) (asciiNames rows) names in
     go (sameBytes s (row .1)) refl e here (named-ascii rows s later)
   where
-    go : (t : Bool) → sameBytes s (row .1) ≡ t → cond t (some (row .0)) (numberIn rows s) ≡ some n
+    go : (t : Bool) → sameBytes s (row .1) ≡ t → cond t (some (variableTypeNumber (row .0))) (numberIn rows s) ≡ some n
         → ascii (row .1) ≡ true → (numberIn rows s ≡ some n → ascii s ≡ true) → ascii s ≡ true
     go true same f here again = ap ascii (same-bytes-equal s (row .1) same) ∙ here
     go false same f here again = again f
@@ -185,10 +187,10 @@ pub understood-is-utf8 : (text : List ℕ) (s : TypeSpelling) → parseType text
 understood-is-utf8 text s e = well-formed-ascii text (understood-is-ascii text s e)
 
 -- and one that is not UTF-8 is refused.
-pub ill-formed-is-refused : (text : List ℕ) → wellFormed text ≡ false → spelledType (parseType text) ≡ Refused (because 18)
+pub ill-formed-is-refused : (text : List ℕ) → wellFormed text ≡ false → spelledType (parseType text) ≡ Refused (because noSpelling)
 unfolding spelledType
 ill-formed-is-refused text ill = go (parseType text) refl
   where
-    go : (o : Option TypeSpelling) → parseType text ≡ o → spelledType o ≡ Refused (because 18)
+    go : (o : Option TypeSpelling) → parseType text ≡ o → spelledType o ≡ Refused (because noSpelling)
     go none e = refl
     go (some s) e = absurd (let well = understood-is-utf8 text s e in let z : _≡_ {A = ℕ} 0 1 = cc in omega arith)

@@ -10,6 +10,7 @@ use native.Mathlib.Nat.{div-lt-iff-lt-mul, pow-suc}
 use native.Mathlib.Omega.{arith}
 use borrow.Author.Tests.{lt-ltb, le-leb, ne-eqb}
 use lib.ListN.{length}
+use Rattle.reflection.specs.Limits.{u16Limit}
 use Rattle.reflection.specs.Nodes.{_>>=_}
 use Rattle.emit.specs.Digits.{digitsBefore, decimalDigit, decimal}
 use Rattle.emit.proofs.Digits.{digits-last, digits-more}
@@ -78,10 +79,10 @@ digits-value (suc most) n after h =
           ∙ ap (digitsValue after) e
     ]
 
-number-of-digits : (text : List ℕ) (n : ℕ) → Each Digit text → 0 < length text → digitsValue text 0 ≡ some n → n < 65536 → number text ≡ some n
+number-of-digits : (text : List ℕ) (n : ℕ) → Each Digit text → 0 < length text → digitsValue text 0 ≡ some n → n < u16Limit → number text ≡ some n
 unfolding number _>>=_
 number-of-digits [] n each some-digit value low = absurd (omega arith)
-number-of-digits (b ∷ bs) n each some-digit value low = rw (ne-eqb b 43 (λ e. omega arith), value, lt-ltb n 65536 low)
+number-of-digits (b ∷ bs) n each some-digit value low = rw (ne-eqb b 43 (λ e. omega arith), value, lt-ltb n u16Limit low)
 
 module _ (n : ℕ) where
   pub decimal-digits : Each Digit (decimal n)
@@ -96,9 +97,9 @@ module _ (n : ℕ) where
         | no h ↦ rw (digits-last decimalDigit 10 9 n [] (omega arith)) (omega arith)
       ]
 
-  decimal-value : n < 65536 → digitsValue (decimal n) 0 ≡ some n
+  decimal-value : n < u16Limit → digitsValue (decimal n) 0 ≡ some n
   unfolding decimal digitsValue
   decimal-value h = digits-value 10 n [] (omega arith)
 
-  pub decimal-number : n < 65536 → number (decimal n) ≡ some n
+  pub decimal-number : n < u16Limit → number (decimal n) ≡ some n
   decimal-number h = number-of-digits (decimal n) n decimal-digits decimal-some (decimal-value h) h

@@ -1,22 +1,28 @@
 -- The pieces of a spelling by the tests that the code makes: base name, dimensions, own name. Each law is one case of the definitions.
 use mathlib.Core.Path.{_≡_, refl, sym, ap, _∙_}
-use mathlib.Core.Bool.{Bool, true, false}
+use mathlib.Core.Bool.{Bool as Boolean, true, false, cond}
 use mathlib.Core.List.{List, [], _∷_, _++_}
-use mathlib.Core.Option.{Option, none, some}
-use Prim.Native.Nat.{ℕ, suc, _+_, _≤_, _<_}
-use native.Mathlib.Decide.{ℕ-discrete, decLe}
+use mathlib.Core.Option.{Option, none, some, Option·none-ne-some}
+use Prim.Native.Nat.{ℕ, suc, _<_}
+use native.Mathlib.Decide.{ℕ-discrete}
 use native.Mathlib.Omega.{arith}
-use borrow.Author.Tests.{lt-ltb, le-ltb, ne-eqb}
-use lib.Dec.{ltb}
+use borrow.Author.Tests.{lt-ltb}
+use lib.Dec.{eqb, ltb}
 use lib.ListN.{length}
-use Rattle.reflection.specs.declared.Text.{Text}
+use Rattle.codes.specs.Table.{Table, lookup, isRow}
+use Rattle.codes.specs.Microsoft.{«D3D_SHADER_VARIABLE_TYPE», variableTypeNumber, variableClasses}
+use Rattle.codes.specs.Variable.{classEnumerator, classRow, baseTypeRow, baseTypes, baseTypeAnswer}
+use Rattle.codes.specs.declared.variable.VariableClass.{VariableClass}
+use Rattle.codes.specs.declared.variable.BaseType.{BaseType}
+use Rattle.codes.specs.declared.variable.BaseType.the-variants.{Bool, Int, Float, Uint, Double}
+use Rattle.codes.specs.declared.variable.BaseTypeCode.{BaseTypeCode}
+use Rattle.codes.specs.declared.variable.BaseTypeCode.the-variants.{Known, Unknown}
+use Rattle.codes.proofs.BaseTypes.{base-type-both-ways}
 use Rattle.reflection.specs.declared.TypeDesc.{TypeDesc}
 use Rattle.reflection.specs.Nodes.{_>>=_}
-use Rattle.reflection.specs.Texts.{inPlace, textBytes}
-use Rattle.reflection.proofs.Texts.{length-bytes, no-bytes}
 use Rattle.emit.specs.Digits.{decimal}
-use Rattle.spelling.specs.Names.{baseName}
-use Rattle.spelling.specs.Spelling.{dimensions, arraySuffix, numericName, ownName, byName, typeSpelling, isSpelled, bytesOf}
+use Rattle.spelling.specs.Names.{baseNames, nameIn, baseName}
+use Rattle.spelling.specs.Spelling.{classDimensions, dimensions, arraySuffix, numericName, ownName, byName, typeSpelling, isSpelled, bytesOf}
 
 pub spelled-bytes : (o : Option (List ℕ)) → isSpelled o ≡ true → o ≡ some (bytesOf o)
 spelled-bytes none e = cc
@@ -26,44 +32,66 @@ pub unspelled-none : (o : Option (List ℕ)) → isSpelled o ≡ false → o ≡
 unspelled-none none e = refl
 unspelled-none (some bytes) e = cc
 
--- the base types without a name
-pub base-unnamed : (n : ℕ) → (n ≡ 1 → ⊥) → (n ≡ 2 → ⊥) → (n ≡ 3 → ⊥) → (n ≡ 19 → ⊥) → (n ≡ 39 → ⊥) → baseName n ≡ none
-unfolding baseName
-base-unnamed n a b c d e = rw (ne-eqb n 1 a, ne-eqb n 2 b, ne-eqb n 3 c, ne-eqb n 19 d, ne-eqb n 39 e)
+-- the rows of the variable types that have a name are those of BaseType
+abbrev namedRows : List («D3D_SHADER_VARIABLE_TYPE» × List ℕ) → Table «D3D_SHADER_VARIABLE_TYPE»
+namedRows [] = []
+namedRows (row ∷ rows) = (row .0, variableTypeNumber (row .0)) ∷ namedRows rows
+
+unnamed : (names : List («D3D_SHADER_VARIABLE_TYPE» × List ℕ)) (n : ℕ) → lookup (namedRows names) n ≡ none → nameIn names n ≡ none
+unfolding lookup
+unnamed [] n e = refl
+unnamed (row ∷ rows) n e = go (eqb (variableTypeNumber (row .0)) n) (unnamed rows n) e
+  where
+    go : (b : Boolean) → (lookup (namedRows rows) n ≡ none → nameIn rows n ≡ none)
+        → _≡_ {A = Option («D3D_SHADER_VARIABLE_TYPE» × ℕ)} (elim b [ true ↦ some (row .0, variableTypeNumber (row .0)) | false ↦ lookup (namedRows rows) n ]) none
+        → cond b (some (row .1)) (nameIn rows n) ≡ none
+    go true later e = absurd (Option·none-ne-some _ (sym e))
+    go false later e = later e
+
+module _ (n : ℕ) where
+  pub base-known : (x : BaseType) → some (baseTypeRow x) ≡ lookup baseTypes n → baseName n ≡ nameIn baseNames (baseTypeRow x .1)
+  unfolding baseName
+  base-known x e = ap (nameIn baseNames) (sym (base-type-both-ways .to-from n x e))
+
+  pub base-unknown : none ≡ lookup baseTypes n → baseName n ≡ none
+  unfolding baseName baseTypes
+  base-unknown e = unnamed baseNames n (sym e)
+
+base-spelled : (x : BaseType) → isSpelled (nameIn baseNames (baseTypeRow x .1)) ≡ true
+base-spelled Bool = refl
+base-spelled Int = refl
+base-spelled Float = refl
+base-spelled Uint = refl
+base-spelled Double = refl
+
+-- a number has a name where from_u32 finds it
+pub base-named : (n : ℕ) (r : BaseTypeCode) → baseTypeAnswer r ≡ lookup baseTypes n → isRow (baseTypeAnswer r) ≡ isSpelled (baseName n)
+base-named n (Known x) e = sym (ap isSpelled (base-known n x e) ∙ base-spelled x)
+base-named n Unknown e = sym (ap isSpelled (base-unknown n e))
 
 module _ (class rows columns : ℕ) where
-  pub vector-dimensions : class ≡ 1 → dimensions class rows columns ≡ some (decimal columns)
-  unfolding dimensions
-  vector-dimensions e = rw e
+  pub class-known : (x : VariableClass) → some (classRow x) ≡ lookup variableClasses class → dimensions class rows columns ≡ classDimensions (classEnumerator x) rows columns
+  unfolding dimensions _>>=_
+  class-known x e = rw (← e)
+
+  pub class-unknown : none ≡ lookup variableClasses class → dimensions class rows columns ≡ none
+  unfolding dimensions _>>=_
+  class-unknown e = rw (← e)
 
   pub scalar-dimensions : class ≡ 0 → dimensions class rows columns ≡ some []
-  unfolding dimensions
+  unfolding dimensions lookup variableClasses _>>=_
   scalar-dimensions e = rw e
 
-  pub matrix-dimensions : (class ≡ 0 → ⊥) → (class ≡ 1 → ⊥) → class < 4 → dimensions class rows columns ≡ some (decimal rows ++ (120 ∷ decimal columns))
-  unfolding dimensions
-  matrix-dimensions a b h =
+  pub vector-dimensions : class ≡ 1 → dimensions class rows columns ≡ some (decimal columns)
+  unfolding dimensions lookup variableClasses _>>=_
+  vector-dimensions e = rw e
+
+  pub matrix-dimensions : 1 < class → class < 4 → dimensions class rows columns ≡ some (decimal rows ++ (120 ∷ decimal columns))
+  unfolding dimensions lookup variableClasses _>>=_
+  matrix-dimensions low high =
       elim (ℕ-discrete class 2) [
         | yes e ↦ rw e
         | no n ↦ let e : class ≡ 3 = omega arith in rw e
-      ]
-
-  pub no-dimensions : 4 ≤ class → dimensions class rows columns ≡ none
-  unfolding dimensions
-  no-dimensions h =
-      rw (ne-eqb class 0 (λ e. omega arith), ne-eqb class 1 (λ e. omega arith), ne-eqb class 2 (λ e. omega arith), ne-eqb class 3 (λ e. omega arith))
-
-  pub dimensions-spelled : isSpelled (dimensions class rows columns) ≡ ltb class 4
-  dimensions-spelled =
-      elim (decLe 4 class) [
-        | yes h ↦ ap isSpelled (no-dimensions h) ∙ sym (le-ltb class 4 h)
-        | no h ↦ elim (ℕ-discrete class 0) [
-          | yes e ↦ ap isSpelled (scalar-dimensions e) ∙ sym (lt-ltb class 4 (omega arith))
-          | no a ↦ elim (ℕ-discrete class 1) [
-            | yes e ↦ ap isSpelled (vector-dimensions e) ∙ sym (lt-ltb class 4 (omega arith))
-            | no b ↦ ap isSpelled (matrix-dimensions a b (omega arith)) ∙ sym (lt-ltb class 4 (omega arith))
-          ]
-        ]
       ]
 
 own-spelled : (name : List ℕ) → isSpelled (ownName name) ≡ ltb 0 (length name)
@@ -112,9 +140,9 @@ module _ (name : List ℕ) (t : TypeDesc) (numbers : byName t ≡ false) where
   unfolding typeSpelling numericName numeric-from
   by-numbers = rw numbers
 
-  pub numbers-spelled : isSpelled (baseName (t .«var_type»)) ≡ true → isSpelled (typeSpelling name t) ≡ ltb (t .class) 4
-  numbers-spelled e =
-      ap isSpelled by-numbers ∙ from-spelled (baseName (t .«var_type»)) _ _ e ∙ dimensions-spelled (t .class) (t .rows) (t .columns)
+  pub numbers-spelled : isSpelled (baseName (t .«var_type»)) ≡ true
+      → isSpelled (typeSpelling name t) ≡ isSpelled (dimensions (t .class) (t .rows) (t .columns))
+  numbers-spelled e = ap isSpelled by-numbers ∙ from-spelled (baseName (t .«var_type»)) _ _ e
 
   pub numbers-unspelled : isSpelled (baseName (t .«var_type»)) ≡ false → isSpelled (typeSpelling name t) ≡ false
   numbers-unspelled e = ap isSpelled by-numbers ∙ from-unspelled (baseName (t .«var_type»)) _ _ e
@@ -122,11 +150,3 @@ module _ (name : List ℕ) (t : TypeDesc) (numbers : byName t ≡ false) where
   pub numbers-bytes : isSpelled (typeSpelling name t) ≡ true
       → bytesOf (typeSpelling name t) ≡ bytesOf (baseName (t .«var_type»)) ++ (bytesOf (dimensions (t .class) (t .rows) (t .columns)) ++ arraySuffix (t .elements))
   numbers-bytes e = ap bytesOf by-numbers ∙ from-bytes (baseName (t .«var_type»)) _ _ (sym (ap isSpelled by-numbers) ∙ e)
-
--- a name has no more bytes than its length says
-pub name-at-most : (chunk edits : List ℕ) (name : Text) → length (textBytes chunk edits name) ≤ name .length
-name-at-most chunk edits name = by-place (inPlace chunk edits name) refl
-  where
-    by-place : (b : Bool) → inPlace chunk edits name ≡ b → length (textBytes chunk edits name) ≤ name .length
-    by-place true e = omega (arith, length-bytes chunk edits name e)
-    by-place false e = rw (no-bytes chunk edits name e) (omega arith)

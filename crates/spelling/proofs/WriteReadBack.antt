@@ -3,11 +3,11 @@
 use mathlib.Core.Path.{_≡_, refl, sym, ap, _∙_}
 use mathlib.Core.Bool.{Bool, true, false, _&&_, cond, true≢false}
 use mathlib.Core.List.{List, [], _∷_, _++_, append-assoc}
-use mathlib.Core.Option.{some}
+use mathlib.Core.Option.{none, some}
 use Prim.Native.Nat.{ℕ, _<_}
 use native.Mathlib.Decide.{ℕ-discrete}
 use native.Mathlib.Omega.{arith}
-use borrow.Author.Tests.{ltb-true, lt-ltb, ne-eqb, le-leb, lt-leb}
+use borrow.Author.Tests.{ltb-true, ne-eqb, le-leb, lt-leb}
 use lib.Dec.{eqb, ltb, leb·zero}
 use lib.ListN.{length}
 use Rattle.words.specs.Parts.{inside}
@@ -15,17 +15,19 @@ use Rattle.words.proofs.Parts.{part-inside}
 use Rattle.text.specs.Same.{sameBytes}
 use Rattle.text.specs.Utf8.{run, wellFormed}
 use Rattle.text.proofs.Bools.{and-true}
+use Rattle.reflection.specs.Limits.{u16Limit}
 use Rattle.reflection.specs.declared.TypeDesc.{TypeDesc}
 use Rattle.reflection.specs.Texts.{inChunk, textBytes}
 use Rattle.reflection.proofs.Texts.{place-in-chunk, bytes-in-chunk}
 use Rattle.reflection.specs.Outcome.{ok}
 use Rattle.emit.specs.Digits.{decimal}
+use Rattle.emit.specs.Printable.{printable}
 use Rattle.spelling.specs.declared.TypeSpelling.{TypeSpelling}
 use Rattle.spelling.specs.Names.{baseName, baseNumber}
-use Rattle.spelling.specs.Spelling.{dimensions, arraySuffix, byName, typeSpelling, isSpelled, bytesOf, printable, fieldsFit, typeName}
+use Rattle.spelling.specs.Spelling.{dimensions, arraySuffix, byName, typeSpelling, isSpelled, bytesOf, fieldsFit, typeName}
 use Rattle.spelling.specs.Grammar.{Shape, shape, parseType}
 use Rattle.spelling.proofs.WriteDecimal.{Each, each-append, each-so, decimal-digits}
-use Rattle.spelling.proofs.WritePieces.{base-unnamed, scalar-dimensions, vector-dimensions, matrix-dimensions, numbers-spelled, numbers-bytes}
+use Rattle.spelling.proofs.WritePieces.{scalar-dimensions, vector-dimensions, matrix-dimensions, numbers-spelled, numbers-bytes}
 use Rattle.spelling.proofs.WriteRefusals.{type-spelled}
 use Rattle.spelling.proofs.WriteSplit.{Other, NoDigit, FromDigit, digits-other, suffix-parted, core-parted}
 use Rattle.spelling.proofs.WriteSplit.{vector-shape, vector-from-digit, matrix-shape, matrix-from-digit}
@@ -68,18 +70,22 @@ letter-no-digit : (b : ℕ) → Letter b → NoDigit b
 letter-no-digit b h = rw (le-leb 48 b (omega arith), lt-leb b 57 (omega arith))
 
 -- a base name reads back as its number
+base-unnamed : (n : ℕ) → (1 ≡ n → ⊥) → (2 ≡ n → ⊥) → (3 ≡ n → ⊥) → (19 ≡ n → ⊥) → (39 ≡ n → ⊥) → baseName n ≡ none
+unfolding baseName
+base-unnamed n a b c d e = rw (ne-eqb 1 n a, ne-eqb 2 n b, ne-eqb 3 n c, ne-eqb 19 n d, ne-eqb 39 n e)
+
 base-cases : (P : ℕ → Type 0) → P 1 → P 2 → P 3 → P 19 → P 39 → (n : ℕ) → isSpelled (baseName n) ≡ true → P n
 base-cases P bool int float uint double n e =
-    elim (ℕ-discrete n 1) [
-      | yes a ↦ rw a bool
-      | no a ↦ elim (ℕ-discrete n 2) [
-        | yes b ↦ rw b int
-        | no b ↦ elim (ℕ-discrete n 3) [
-          | yes c ↦ rw c float
-          | no c ↦ elim (ℕ-discrete n 19) [
-            | yes d ↦ rw d uint
-            | no d ↦ elim (ℕ-discrete n 39) [
-              | yes g ↦ rw g double
+    elim (ℕ-discrete 1 n) [
+      | yes a ↦ rw (← a) bool
+      | no a ↦ elim (ℕ-discrete 2 n) [
+        | yes b ↦ rw (← b) int
+        | no b ↦ elim (ℕ-discrete 3 n) [
+          | yes c ↦ rw (← c) float
+          | no c ↦ elim (ℕ-discrete 19 n) [
+            | yes d ↦ rw (← d) uint
+            | no d ↦ elim (ℕ-discrete 39 n) [
+              | yes g ↦ rw (← g) double
               | no g ↦ let z : isSpelled (baseName n) ≡ false = ap isSpelled (base-unnamed n a b c d g) in absurd (true≢false (sym e ∙ z))
             ]
           ]
@@ -95,7 +101,7 @@ unfolding BaseReads baseName baseNumber sameBytes lettersOnly
 base-reads = base-cases BaseReads (refl, refl) (refl, refl) (refl, refl) (refl, refl) (refl, refl)
 
 -- base, dimensions and suffix, read back
-module _ (n elements : ℕ) (dims : List ℕ) (s : Shape) (named : isSpelled (baseName n) ≡ true) (low : elements < 65536)
+module _ (n elements : ℕ) (dims : List ℕ) (s : Shape) (named : isSpelled (baseName n) ≡ true) (low : elements < u16Limit)
     (begins : FromDigit dims) (unopened : Each (Other 91) dims) (shaped : shape dims ≡ some s) where
   name : List ℕ
   name = bytesOf (baseName n)
@@ -114,22 +120,22 @@ module _ (n elements : ℕ) (dims : List ℕ) (s : Shape) (named : isSpelled (ba
 
 -- the fields of a type that fit 16 bits
 record Below (t : TypeDesc) : Type 0 where
-  pub rows : t .rows < 65536
-  pub columns : t .columns < 65536
-  pub elements : t .elements < 65536
+  pub rows : t .rows < u16Limit
+  pub columns : t .columns < u16Limit
+  pub elements : t .elements < u16Limit
 
 fields-below : (t : TypeDesc) → fieldsFit t ≡ true → Below t
 unfolding fieldsFit
 fields-below t e =
-    let class = and-true (ltb (t .class) 65536) _ e in
-    let base = and-true (ltb (t .«var_type») 65536) _ (class .1) in
-    let rows = and-true (ltb (t .rows) 65536) _ (base .1) in
-    let columns = and-true (ltb (t .columns) 65536) _ (rows .1) in
-    let elements = and-true (ltb (t .elements) 65536) _ (columns .1) in
+    let class = and-true (ltb (t .class) u16Limit) _ e in
+    let base = and-true (ltb (t .«var_type») u16Limit) _ (class .1) in
+    let rows = and-true (ltb (t .rows) u16Limit) _ (base .1) in
+    let columns = and-true (ltb (t .columns) u16Limit) _ (rows .1) in
+    let elements = and-true (ltb (t .elements) u16Limit) _ (columns .1) in
     record {
-      rows = ltb-true (t .rows) 65536 (rows .0);
-      columns = ltb-true (t .columns) 65536 (columns .0);
-      elements = ltb-true (t .elements) 65536 (elements .0);
+      rows = ltb-true (t .rows) u16Limit (rows .0);
+      columns = ltb-true (t .columns) u16Limit (columns .0);
+      elements = ltb-true (t .elements) u16Limit (elements .0);
     }
 
 -- a name is not printed here, but it must be one that can be; an empty one can
@@ -156,7 +162,7 @@ module _ (chunk edits : List ℕ) (t : TypeDesc) (alone : t .«member_count» �
   by-dimensions dims s low is-dims begins unopened shaped same =
       let own = textBytes chunk edits (t .name) in
       let numbers = by-numbers low in
-      let spelled : isSpelled (typeSpelling own t) ≡ true = numbers-spelled own t numbers named ∙ lt-ltb (t .class) 4 low in
+      let spelled : isSpelled (typeSpelling own t) ≡ true = numbers-spelled own t numbers named ∙ ap isSpelled is-dims in
       let pieces = numbers-bytes own t numbers spelled ∙ ap (λ o. bytesOf (baseName (t .«var_type»)) ++ (bytesOf o ++ arraySuffix (t .elements))) is-dims in
       let read = pieces-read-back (t .«var_type») (t .elements) dims s named (fields-below t fit .elements) begins unopened shaped in
       (bytesOf (typeSpelling own t), (type-spelled chunk edits t printed fit spelled, ap parseType pieces ∙ read ∙ ap some same))
@@ -164,7 +170,7 @@ module _ (chunk edits : List ℕ) (t : TypeDesc) (alone : t .«member_count» �
   matrix-reads-back : 1 < t .class → t .class < 4 → cond (eqb (t .class) 2) 3 (t .class) ≡ 3 → ReadsBack chunk edits t
   matrix-reads-back low high class =
       let below = fields-below t fit in
-      let dims = matrix-dimensions (t .class) (t .rows) (t .columns) (λ e. omega arith) (λ e. omega arith) high in
+      let dims = matrix-dimensions (t .class) (t .rows) (t .columns) low high in
       let rows = digits-other 91 (omega arith) (decimal (t .rows)) (decimal-digits (t .rows)) in
       let columns = digits-other 91 (omega arith) (decimal (t .columns)) (decimal-digits (t .columns)) in
       let unopened = each-append (Other 91) (decimal (t .rows)) (120 ∷ decimal (t .columns)) rows ((λ e. omega arith), columns) in

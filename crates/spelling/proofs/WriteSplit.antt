@@ -9,6 +9,7 @@ use native.Mathlib.Decide.{ℕ-discrete}
 use native.Mathlib.Omega.{arith}
 use borrow.Author.Tests.{eq-eqb, ne-eqb}
 use lib.ListN.{length, length-append}
+use Rattle.reflection.specs.Limits.{u16Limit}
 use Rattle.reflection.specs.Nodes.{_>>=_}
 use Rattle.emit.specs.Digits.{decimal}
 use Rattle.spelling.specs.Names.{baseNumber}
@@ -69,13 +70,13 @@ shape-some [] h = absurd (omega arith)
 shape-some (b ∷ bs) h = refl
 
 -- the dimensions of a vector and of a matrix
-pub vector-shape : (columns : ℕ) → columns < 65536 → shape (decimal columns) ≡ some (1, (1, columns))
+pub vector-shape : (columns : ℕ) → columns < u16Limit → shape (decimal columns) ≡ some (1, (1, columns))
 unfolding _>>=_
 vector-shape columns h =
     shape-some (decimal columns) (decimal-some columns)
     ∙ rw (unsplit 120 (decimal columns) (digits-other 120 (omega arith) (decimal columns) (decimal-digits columns)), decimal-number columns h)
 
-pub matrix-shape : (rows columns : ℕ) → rows < 65536 → columns < 65536
+pub matrix-shape : (rows columns : ℕ) → rows < u16Limit → columns < u16Limit
     → shape (decimal rows ++ (120 ∷ decimal columns)) ≡ some (3, (rows, columns))
 unfolding _>>=_
 matrix-shape rows columns h k =
@@ -93,7 +94,7 @@ pub matrix-from-digit : (rows : ℕ) (ys : List ℕ) → FromDigit (decimal rows
 matrix-from-digit rows ys = digits-first (decimal rows) ys (decimal-digits rows) (decimal-some rows)
 
 -- the array suffix, where nothing before it is a `[`
-pub suffix-parted : (xs : List ℕ) (elements : ℕ) → Each (Other 91) xs → elements < 65536 → parseType (xs ++ arraySuffix elements) ≡ core xs elements
+pub suffix-parted : (xs : List ℕ) (elements : ℕ) → Each (Other 91) xs → elements < u16Limit → parseType (xs ++ arraySuffix elements) ≡ core xs elements
 unfolding parseType arraySuffix _>>=_
 suffix-parted xs elements each h =
     elim (ℕ-discrete elements 0) [

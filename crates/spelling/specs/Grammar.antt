@@ -8,6 +8,12 @@ use mathlib.Core.List.{List, [], _∷_, _++_}
 use mathlib.Core.Option.{Option, none, some}
 use Prim.Native.Nat.{ℕ, suc, _+_, _*_, _-_}
 use lib.Dec.{eqb, leb, ltb}
+use Rattle.codes.specs.Microsoft.{«D3D_SVC_SCALAR», «D3D_SVC_VECTOR», «D3D_SVC_MATRIX_COLUMNS», variableClassNumber}
+use Rattle.codes.specs.Variable.{baseTypeRow}
+use Rattle.codes.specs.declared.variable.BaseTypeCode.{BaseTypeCode}
+use Rattle.codes.specs.declared.variable.BaseTypeCode.the-variants.{Known, Unknown}
+use Rattle.reflection.specs.Limits.{u16Limit}
+use Rattle.reflection.specs.Refusals.{noSpelling}
 use Rattle.reflection.specs.Nodes.{_>>=_}
 use Rattle.reflection.specs.Outcome.{because}
 use Rattle.spelling.specs.declared.TypeSpelling.{TypeSpelling}
@@ -35,13 +41,14 @@ abbrev pub withoutPlus : List ℕ → List ℕ
 withoutPlus [] = []
 withoutPlus (b ∷ bs) = cond (eqb b 43) bs (b ∷ bs)
 
-abbrev pub below65536 : ℕ → Option ℕ
-below65536 n = cond (ltb n 65536) (some n) none
+-- A number that fits 16 bits.
+abbrev pub asU16 : ℕ → Option ℕ
+asU16 n = cond (ltb n u16Limit) (some n) none
 
 unfoldable pub number : List ℕ → Option ℕ
 number text = do
   n ← digitsNumber (withoutPlus text)
-  below65536 n
+  asU16 n
 
 -- The bytes before and after the first byte c; none where it does not occur.
 abbrev pub afterByte : ℕ → Option (List ℕ × List ℕ) → Option (List ℕ × List ℕ)
@@ -69,7 +76,7 @@ unfoldable pub fromDigit : List ℕ → List ℕ
 fromDigit [] = []
 fromDigit (b ∷ bs) = cond (isDigit b) (b ∷ bs) (fromDigit bs)
 
--- Class, rows and columns: none is a scalar; with an `x` a matrix, which comes back as class 3; else a vector.
+-- Class, rows and columns: none is a scalar; with an `x` a matrix, which comes back as one by columns; else a vector.
 abbrev pub Shape : Type 0
 Shape = ℕ × (ℕ × ℕ)
 
@@ -77,13 +84,13 @@ abbrev pub shapeOf : List ℕ → Option (List ℕ × List ℕ) → Option Shape
 shapeOf dims (some p) = do
   rows ← number (p .0)
   columns ← number (p .1)
-  some (3, (rows, columns))
+  some (variableClassNumber «D3D_SVC_MATRIX_COLUMNS», (rows, columns))
 shapeOf dims none = do
   columns ← number dims
-  some (1, (1, columns))
+  some (variableClassNumber «D3D_SVC_VECTOR», (1, columns))
 
 abbrev pub shape : List ℕ → Option Shape
-shape [] = some (0, (1, 1))
+shape [] = some (variableClassNumber «D3D_SVC_SCALAR», (1, 1))
 shape (b ∷ bs) = shapeOf (b ∷ bs) (splitOnce 120 (b ∷ bs))
 
 unfoldable pub core : List ℕ → ℕ → Option TypeSpelling
@@ -103,10 +110,10 @@ typeFrom text (some p) = do
 unfoldable pub parseType : List ℕ → Option TypeSpelling
 parseType text = typeFrom text (splitOnce 91 text)
 
--- The answer's two cases: the five numbers, or 18.
+-- The answer's two cases: the five numbers, or a refusal.
 unfoldable pub spelledType : Option TypeSpelling → SpelledType
 spelledType (some s) = Understood s
-spelledType none = Refused (because 18)
+spelledType none = Refused (because noSpelling)
 
 -- What follows states the parts of the reading that have a function of their own in the code.
 
@@ -115,11 +122,11 @@ unfoldable pub firstBetween : ℕ → ℕ → List ℕ → ℕ
 firstBetween low high [] = 0
 firstBetween low high (b ∷ bs) = cond (leb low b && leb b high) 0 (suc (firstBetween low high bs))
 
--- One digit or more, below 65,536.
-abbrev pub digitsBelow65536 : List ℕ → Option ℕ
-digitsBelow65536 digits = do
+-- One digit or more, a number that fits 16 bits.
+abbrev pub digitsAsU16 : List ℕ → Option ℕ
+digitsAsU16 digits = do
   n ← digitsNumber digits
-  below65536 n
+  asU16 n
 
 -- The number of elements, from what follows the first '['.
 unfoldable pub elementsOf : List ℕ → Option ℕ
@@ -138,9 +145,14 @@ abbrev pub numberRead : Option ℕ → Number
 numberRead (some n) = Value n
 numberRead none = NotUnderstood
 
+-- The number of a base type that was read, or none.
+abbrev pub baseRead : BaseTypeCode → Option ℕ
+baseRead (Known base) = some (baseTypeRow base .1)
+baseRead Unknown = none
+
 -- A type by its numbers, if rows and columns were understood.
 unfoldable pub withNumbers : ℕ → ℕ → Number → Number → ℕ → SpelledType
 withNumbers class base (Value rows) (Value columns) elements =
     Understood (record { class = class; base = base; rows = rows; columns = columns; elements = elements })
-withNumbers class base (Value rows) NotUnderstood elements = Refused (because 18)
-withNumbers class base NotUnderstood columns elements = Refused (because 18)
+withNumbers class base (Value rows) NotUnderstood elements = Refused (because noSpelling)
+withNumbers class base NotUnderstood columns elements = Refused (because noSpelling)

@@ -5,21 +5,28 @@ use mathlib.Core.Option.{Option, none, some}
 use Prim.Native.Nat.{ℕ}
 use lib.Dec.{eqb}
 use Rattle.text.specs.Same.{sameBytes}
+use Rattle.codes.specs.Microsoft.{«D3D_SHADER_VARIABLE_TYPE», «D3D_SVT_BOOL», «D3D_SVT_INT», «D3D_SVT_FLOAT», «D3D_SVT_UINT», «D3D_SVT_DOUBLE», variableTypeNumber}
 use Rattle.emit.specs.Ascii.{ascii}
 
--- D3D_SHADER_VARIABLE_TYPE's number, and the name.
-abbrev pub baseNames : List (ℕ × List ℕ)
-baseNames = (1, ascii "bool") ∷ (2, ascii "int") ∷ (3, ascii "float") ∷ (19, ascii "uint") ∷ (39, ascii "double") ∷ []
+-- The variable types that are spelled by a word, and the word. No other has a spelling.
+abbrev pub baseNames : List («D3D_SHADER_VARIABLE_TYPE» × List ℕ)
+baseNames =
+    («D3D_SVT_BOOL», ascii "bool")
+    ∷ («D3D_SVT_INT», ascii "int")
+    ∷ («D3D_SVT_FLOAT», ascii "float")
+    ∷ («D3D_SVT_UINT», ascii "uint")
+    ∷ («D3D_SVT_DOUBLE», ascii "double")
+    ∷ []
 
-abbrev pub nameIn : List (ℕ × List ℕ) → ℕ → Option (List ℕ)
+-- The name of the variable type that has a number, and the number of the variable type that has a name.
+abbrev pub nameIn : List («D3D_SHADER_VARIABLE_TYPE» × List ℕ) → ℕ → Option (List ℕ)
 nameIn [] n = none
-nameIn (row ∷ rows) n = cond (eqb n (row .0)) (some (row .1)) (nameIn rows n)
+nameIn (row ∷ rows) n = cond (eqb (variableTypeNumber (row .0)) n) (some (row .1)) (nameIn rows n)
 
-abbrev pub numberIn : List (ℕ × List ℕ) → List ℕ → Option ℕ
+abbrev pub numberIn : List («D3D_SHADER_VARIABLE_TYPE» × List ℕ) → List ℕ → Option ℕ
 numberIn [] text = none
-numberIn (row ∷ rows) text = cond (sameBytes text (row .1)) (some (row .0)) (numberIn rows text)
+numberIn (row ∷ rows) text = cond (sameBytes text (row .1)) (some (variableTypeNumber (row .0))) (numberIn rows text)
 
--- The name of a base type, and the base type of a name.
 unfoldable pub baseName : ℕ → Option (List ℕ)
 baseName n = nameIn baseNames n
 

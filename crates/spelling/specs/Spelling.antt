@@ -4,22 +4,34 @@ use mathlib.Core.List.{List, [], _∷_, _++_}
 use mathlib.Core.Option.{Option, none, some}
 use Prim.Native.Nat.{ℕ}
 use lib.Dec.{eqb, ltb}
-use Rattle.text.specs.Utf8.{wellFormed}
+use Rattle.codes.specs.Table.{lookup}
+use Rattle.codes.specs.Microsoft.{«D3D_SHADER_VARIABLE_CLASS», «D3D_SVC_SCALAR», «D3D_SVC_VECTOR», «D3D_SVC_MATRIX_ROWS», «D3D_SVC_MATRIX_COLUMNS», «D3D_SVC_OBJECT», «D3D_SVC_STRUCT», «D3D_SVC_INTERFACE_CLASS», «D3D_SVC_INTERFACE_POINTER», variableClassNumber, variableClasses}
 use Rattle.reflection.specs.declared.Text.{Text}
 use Rattle.reflection.specs.declared.TypeDesc.{TypeDesc}
+use Rattle.reflection.specs.Limits.{u16Limit}
+use Rattle.reflection.specs.Refusals.{notReadable, noSpelling}
 use Rattle.reflection.specs.Outcome.{Outcome, ok, refused, because}
-use Rattle.reflection.specs.Texts.{inPlace, textBytes}
+use Rattle.reflection.specs.Texts.{textBytes}
 use Rattle.reflection.specs.Nodes.{_>>=_}
 use Rattle.emit.specs.Digits.{decimal}
+use Rattle.emit.specs.Printable.{printable}
 use Rattle.spelling.specs.Names.{baseName}
 
--- What follows the base: nothing for a scalar (class 0), the columns for a vector (1), rows, `x` and columns for a matrix (2 and 3).
+-- What follows the base: nothing for a scalar, the columns for a vector, rows, `x` and columns for a matrix. Other classes have no such spelling.
+abbrev pub classDimensions : «D3D_SHADER_VARIABLE_CLASS» → ℕ → ℕ → Option (List ℕ)
+classDimensions «D3D_SVC_SCALAR» rows columns = some []
+classDimensions «D3D_SVC_VECTOR» rows columns = some (decimal columns)
+classDimensions «D3D_SVC_MATRIX_ROWS» rows columns = some (decimal rows ++ (120 ∷ decimal columns))
+classDimensions «D3D_SVC_MATRIX_COLUMNS» rows columns = some (decimal rows ++ (120 ∷ decimal columns))
+classDimensions «D3D_SVC_OBJECT» rows columns = none
+classDimensions «D3D_SVC_STRUCT» rows columns = none
+classDimensions «D3D_SVC_INTERFACE_CLASS» rows columns = none
+classDimensions «D3D_SVC_INTERFACE_POINTER» rows columns = none
+
 unfoldable pub dimensions : ℕ → ℕ → ℕ → Option (List ℕ)
-dimensions class rows columns =
-    cond (eqb class 0) (some [])
-    (cond (eqb class 1) (some (decimal columns))
-    (cond (eqb class 2 || eqb class 3) (some (decimal rows ++ (120 ∷ decimal columns)))
-    none))
+dimensions class rows columns = do
+  row ← lookup variableClasses class
+  classDimensions (row .0) rows columns
 
 -- `[N]` where there are elements.
 unfoldable pub arraySuffix : ℕ → List ℕ
@@ -37,9 +49,9 @@ abbrev pub ownName : List ℕ → Option (List ℕ)
 ownName [] = none
 ownName (b ∷ bs) = some (b ∷ bs)
 
--- Whether a type goes by its own name: it has members, or is of class 5.
+-- Whether a type goes by its own name: it has members, or is a struct.
 unfoldable pub byName : TypeDesc → Bool
-byName t = ltb 0 (t .«member_count») || eqb (t .class) 5
+byName t = ltb 0 (t .«member_count») || eqb (t .class) (variableClassNumber «D3D_SVC_STRUCT»)
 
 -- Such a type has its own name and no array suffix; any other goes by its numbers.
 unfoldable pub typeSpelling : List ℕ → TypeDesc → Option (List ℕ)
@@ -54,25 +66,21 @@ abbrev pub bytesOf : Option (List ℕ) → List ℕ
 bytesOf none = []
 bytesOf (some bytes) = bytes
 
--- A name that can be printed: in place, and UTF-8.
-unfoldable pub printable : List ℕ → List ℕ → Text → Bool
-printable chunk edits name = inPlace chunk edits name && wellFormed (textBytes chunk edits name)
-
 -- The fields of 16 bits are.
 unfoldable pub fieldsFit : TypeDesc → Bool
 fieldsFit t =
-    ltb (t .class) 65536 && (ltb (t .«var_type») 65536 && (ltb (t .rows) 65536
-    && (ltb (t .columns) 65536 && (ltb (t .elements) 65536 && ltb (t .«member_count») 65536))))
+    ltb (t .class) u16Limit && (ltb (t .«var_type») u16Limit && (ltb (t .rows) u16Limit
+    && (ltb (t .columns) u16Limit && (ltb (t .elements) u16Limit && ltb (t .«member_count») u16Limit))))
 
--- The spelling, or 18 where there is none.
-abbrev pub spelledOr18 : Option (List ℕ) → Outcome (List ℕ)
-spelledOr18 (some bytes) = ok bytes
-spelledOr18 none = refused (because 18)
+-- The spelling, or a refusal where there is none.
+abbrev pub spelledOrRefused : Option (List ℕ) → Outcome (List ℕ)
+spelledOrRefused (some bytes) = ok bytes
+spelledOrRefused none = refused (because noSpelling)
 
 -- `hlsl_type_name`: 16 before 18. (17, for an output that is too small, comes last: `fitting` of crate emit.)
 unfoldable pub typeName : List ℕ → List ℕ → TypeDesc → Outcome (List ℕ)
 typeName chunk edits t =
-    cond (printable chunk edits (t .name) && fieldsFit t) (spelledOr18 (typeSpelling (textBytes chunk edits (t .name)) t)) (refused (because 16))
+    cond (printable chunk edits (t .name) && fieldsFit t) (spelledOrRefused (typeSpelling (textBytes chunk edits (t .name)) t)) (refused (because notReadable))
 
 -- A spelling, a space, a name, a semicolon.
 abbrev pub declared : List ℕ → Option (List ℕ) → Option (List ℕ)
@@ -83,5 +91,5 @@ declared name (some type) = some (type ++ (32 ∷ (name ++ (59 ∷ []))))
 unfoldable pub declaration : List ℕ → List ℕ → TypeDesc → Text → Outcome (List ℕ)
 declaration chunk edits t name =
     cond (printable chunk edits (t .name) && (fieldsFit t && printable chunk edits name))
-    (spelledOr18 (declared (textBytes chunk edits name) (typeSpelling (textBytes chunk edits (t .name)) t)))
-    (refused (because 16))
+    (spelledOrRefused (declared (textBytes chunk edits name) (typeSpelling (textBytes chunk edits (t .name)) t)))
+    (refused (because notReadable))

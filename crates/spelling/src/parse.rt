@@ -2,13 +2,20 @@
 ghost use mathlib.Core.Path.{_≡_};
 ghost use Prim.Native.Nat.{_≤_};
 ghost use lib.ListN.{length};
+ghost use Rattle.codes.specs.Variable.{classRow};
 ghost use Rattle.reflection.specs.Outcome.{because};
+ghost use Rattle.reflection.specs.Refusals.{noSpelling};
 ghost use Rattle.spelling.specs.Grammar.{number, shape, core, parseType, spelledType};
-ghost use Rattle.spelling.specs.Grammar.{firstBetween, digitsBelow65536, elementsOf, withShape, withNumbers, numberRead};
+ghost use Rattle.spelling.specs.Grammar.{firstBetween, digitsAsU16, elementsOf, withShape, withNumbers, numberRead, baseRead};
 ghost use Rattle.spelling.specs.Names.{baseNumber};
 use crate::SpelledType;
 use crate::TypeSpelling;
+use codes::BaseType;
+use codes::BaseTypeCode;
+use codes::VariableClass;
+use reflection::NO_SPELLING;
 use reflection::Refusal;
+use reflection::U16_LIMIT;
 use text::same_text;
 
 // What a part of the text says: a number, or nothing that is understood.
@@ -34,9 +41,9 @@ fn first_between(text: &[u8], low: u8, high: u8) -> usize
     i
 }
 
-// One decimal digit or more, below 65,536.
+// One decimal digit or more, a number that fits 16 bits.
 fn parse_digits(digits: &[u8]) -> Number
-    ensures { λ r. ⌜ r ≡ numberRead (digitsBelow65536 (now (digits .entry))) ⌝ }
+    ensures { λ r. ⌜ r ≡ numberRead (digitsAsU16 (now (digits .entry))) ⌝ }
 {
     if digits.len() == 0 {
         return Number::NotUnderstood;
@@ -52,7 +59,7 @@ fn parse_digits(digits: &[u8]) -> Number
             return Number::NotUnderstood;
         }
         value = 10 * value + (b - b'0') as u32;
-        if value > 65535 {
+        if value >= U16_LIMIT {
             return Number::NotUnderstood;
         }
         i += 1;
@@ -74,25 +81,25 @@ fn parse_number(text: &[u8]) -> Number
 }
 
 // The base type of a name.
-fn parse_base(name: &[u8]) -> Number
-    ensures { λ r. ⌜ r ≡ numberRead (baseNumber (now (name .entry))) ⌝ }
+fn parse_base(name: &[u8]) -> BaseTypeCode
+    ensures { λ r. ⌜ baseRead r ≡ baseNumber (now (name .entry)) ⌝ }
 {
     if same_text(name, b"bool") {
-        return Number::Value(1);
+        return BaseTypeCode::Known(BaseType::Bool);
     }
     if same_text(name, b"int") {
-        return Number::Value(2);
+        return BaseTypeCode::Known(BaseType::Int);
     }
     if same_text(name, b"float") {
-        return Number::Value(3);
+        return BaseTypeCode::Known(BaseType::Float);
     }
     if same_text(name, b"uint") {
-        return Number::Value(19);
+        return BaseTypeCode::Known(BaseType::Uint);
     }
     if same_text(name, b"double") {
-        return Number::Value(39);
+        return BaseTypeCode::Known(BaseType::Double);
     }
-    Number::NotUnderstood
+    BaseTypeCode::Unknown
 }
 
 // The number of elements, from what follows the first `[`.
@@ -111,14 +118,22 @@ fn parse_elements(rest: &[u8]) -> Number
 
 // A spelling that is not understood.
 fn not_understood() -> SpelledType
-    ensures { λ r. ⌜ r ≡ SpelledType.Refused (because 18) ⌝ }
+    ensures { λ r. ⌜ r ≡ SpelledType.Refused (because noSpelling) ⌝ }
 {
-    SpelledType::Refused(Refusal { number: 18 })
+    SpelledType::Refused(Refusal {
+        number: NO_SPELLING,
+    })
 }
 
 // A type by its numbers, if rows and columns were understood.
-fn with_numbers(class: u32, base: u32, rows: Number, columns: Number, elements: u32) -> SpelledType
-    ensures { λ r. ⌜ r ≡ withNumbers class base rows columns elements ⌝ }
+fn with_numbers(
+    class: VariableClass,
+    base: u32,
+    rows: Number,
+    columns: Number,
+    elements: u32,
+) -> SpelledType
+    ensures { λ r. ⌜ r ≡ withNumbers (classRow class .1) base rows columns elements ⌝ }
 {
     let Number::Value(row_count) = rows else {
         return not_understood();
@@ -127,7 +142,7 @@ fn with_numbers(class: u32, base: u32, rows: Number, columns: Number, elements: 
         return not_understood();
     };
     SpelledType::Understood(TypeSpelling {
-        class,
+        class: class.to_u32(),
         base,
         rows: row_count,
         columns: column_count,
@@ -140,15 +155,27 @@ fn parse_shape(dims: &[u8], base: u32, elements: u32) -> SpelledType
     ensures { λ r. ⌜ r ≡ spelledType (withShape base elements (shape (now (dims .entry)))) ⌝ }
 {
     if dims.len() == 0 {
-        return with_numbers(0, base, Number::Value(1), Number::Value(1), elements);
+        return with_numbers(
+            VariableClass::Scalar,
+            base,
+            Number::Value(1),
+            Number::Value(1),
+            elements,
+        );
     }
     let x = first_between(dims, b'x', b'x');
     if x == dims.len() {
-        return with_numbers(1, base, Number::Value(1), parse_number(dims), elements);
+        return with_numbers(
+            VariableClass::Vector,
+            base,
+            Number::Value(1),
+            parse_number(dims),
+            elements,
+        );
     }
     let rows = parse_number(&dims[..x]);
     let columns = parse_number(&dims[x + 1..]);
-    with_numbers(3, base, rows, columns, elements)
+    with_numbers(VariableClass::MatrixColumns, base, rows, columns, elements)
 }
 
 // A type without its array suffix.
@@ -156,13 +183,13 @@ fn parse_core(text: &[u8], elements: u32) -> SpelledType
     ensures { λ r. ⌜ r ≡ spelledType (core (now (text .entry)) elements) ⌝ }
 {
     let digit = first_between(text, b'0', b'9');
-    let Number::Value(base) = parse_base(&text[..digit]) else {
+    let BaseTypeCode::Known(base) = parse_base(&text[..digit]) else {
         return not_understood();
     };
-    parse_shape(&text[digit..], base, elements)
+    parse_shape(&text[digit..], base.to_u32(), elements)
 }
 
-// The class, base, rows, columns and elements that a text spells; 18 where it is not understood.
+// The class, base, rows, columns and elements that a text spells, or a refusal where it is not understood.
 pub fn parse_hlsl_type(text: &[u8]) -> SpelledType
     ensures { λ r. ⌜ r ≡ spelledType (parseType (now (text .entry))) ⌝ }
 {

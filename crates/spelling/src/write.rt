@@ -2,57 +2,79 @@
 ghost use mathlib.Core.Path.{_≡_};
 ghost use mathlib.Core.Bool.{true};
 ghost use mathlib.Core.List.{[], _∷_, _++_};
-ghost use Prim.Native.Nat.{_+_, _≤_, _<_, _^_};
+ghost use Prim.Native.Nat.{ℕ, _+_, _≤_, _<_, _^_};
 ghost use lib.ListN.{length};
 ghost use Rattle.words.specs.Splice.{Put};
+ghost use Rattle.codes.specs.Variable.{classEnumerator, baseTypeRow};
+ghost use Rattle.emit.specs.Digits.{decimal};
 ghost use Rattle.emit.specs.Written.{farthest, fitting, writtenOf, outputOf};
-ghost use Rattle.spelling.specs.Names.{baseName};
-ghost use Rattle.spelling.specs.Spelling.{printable, fieldsFit, byName, isSpelled, bytesOf, dimensions, arraySuffix, typeSpelling, typeName, declaration};
+ghost use Rattle.spelling.specs.Names.{baseNames, nameIn, baseName};
+ghost use Rattle.spelling.specs.Spelling.{fieldsFit, byName, isSpelled, bytesOf, classDimensions, dimensions, arraySuffix, typeSpelling, typeName, declaration};
+use codes::BaseType;
+use codes::BaseTypeCode;
+use codes::VariableClass;
+use codes::VariableClassCode;
 use emit::Written;
 use emit::put_byte;
 use emit::put_bytes;
 use emit::put_decimal;
+use reflection::NO_SPELLING;
+use reflection::NOT_READABLE;
 use reflection::Text;
 use reflection::TypeDesc;
+use reflection::U16_LIMIT;
 
-// Whether a name can be printed: in place, and UTF-8.
-fn printable<'a>(chunk: &'a [u8], edits: &'a [u8], name: Text) -> bool
-    ensures { λ r. ⌜ r ≡ printable (now (chunk .entry)) (now (edits .entry)) name ⌝ }
-{
-    if reflection::in_place(chunk, edits, name) {
-        return text::utf8_ok(reflection::name_part(chunk, edits, name));
-    }
-    false
-}
-
-// Whether the 16-bit fields are below 65,536.
+// Whether the 16-bit fields fit 16 bits.
 fn fields_fit(t: TypeDesc) -> bool
     ensures { λ r. ⌜ r ≡ fieldsFit t ⌝ }
 {
-    t.class < 65536
-        && (t.var_type < 65536
-            && (t.rows < 65536
-                && (t.columns < 65536 && (t.elements < 65536 && t.member_count < 65536))))
+    t.class < U16_LIMIT
+        && (t.var_type < U16_LIMIT
+            && (t.rows < U16_LIMIT
+                && (t.columns < U16_LIMIT
+                    && (t.elements < U16_LIMIT && t.member_count < U16_LIMIT))))
 }
 
 // Whether a type goes by its own name.
 fn by_name(t: TypeDesc) -> bool
     ensures { λ r. ⌜ r ≡ byName t ⌝ }
 {
-    t.member_count > 0 || t.class == 5
+    t.member_count > 0 || t.class == VariableClass::Struct.to_u32()
 }
 
 // Whether a base type has a name.
 fn has_base_name(base: u32) -> bool
     ensures { λ r. ⌜ r ≡ isSpelled (baseName base) ⌝ }
 {
-    match base {
-        1 => true,
-        2 => true,
-        3 => true,
-        19 => true,
-        39 => true,
-        _ => false,
+    match BaseType::from_u32(base) {
+        BaseTypeCode::Known(_) => true,
+        BaseTypeCode::Unknown => false,
+    }
+}
+
+// Whether a class has dimensions.
+fn class_has_dimensions(class: VariableClass) -> bool
+    ensures { λ r. ⌜ ((rows columns : ℕ) → r ≡ isSpelled (classDimensions (classEnumerator class) rows columns)) ⌝ }
+{
+    match class {
+        VariableClass::Scalar => true,
+        VariableClass::Vector => true,
+        VariableClass::MatrixRows => true,
+        VariableClass::MatrixColumns => true,
+        VariableClass::Object => false,
+        VariableClass::Struct => false,
+        VariableClass::InterfaceClass => false,
+        VariableClass::InterfacePointer => false,
+    }
+}
+
+// Whether a type has dimensions.
+fn has_dimensions(t: TypeDesc) -> bool
+    ensures { λ r. ⌜ r ≡ isSpelled (dimensions (t .class) (t .rows) (t .columns)) ⌝ }
+{
+    match VariableClass::from_u32(t.class) {
+        VariableClassCode::Known(class) => class_has_dimensions(class),
+        VariableClassCode::Unknown => false,
     }
 }
 
@@ -64,53 +86,83 @@ fn has_spelling(name: &[u8], t: TypeDesc) -> bool
         return name.len() > 0;
     }
     if has_base_name(t.var_type) {
-        return t.class < 4;
+        return has_dimensions(t);
     }
     false
 }
 
-// Writes the name of a base type; nothing where it has none.
+// Writes the name of a base type.
+fn put_base_name(out: &mut [u8], at: usize, base: BaseType) -> usize
+    requires { ⌜ at ≤ farthest ⌝ }
+    ensures text { λ r. ⌜ Put (now (out .entry)) at (bytesOf (nameIn baseNames (baseTypeRow base .1))) (now (out .exit)) r ⌝ }
+    ensures near { λ r. ⌜ r ≤ at + 6 ⌝ }
+{
+    match base {
+        BaseType::Bool => put_bytes(out, at, b"bool"),
+        BaseType::Int => put_bytes(out, at, b"int"),
+        BaseType::Float => put_bytes(out, at, b"float"),
+        BaseType::Uint => put_bytes(out, at, b"uint"),
+        BaseType::Double => put_bytes(out, at, b"double"),
+    }
+}
+
+// Writes the name of a base type by its number; nothing where it has none.
 fn put_base(out: &mut [u8], at: usize, base: u32) -> usize
     requires { ⌜ at ≤ farthest ⌝ }
     ensures text { λ r. ⌜ Put (now (out .entry)) at (bytesOf (baseName base)) (now (out .exit)) r ⌝ }
     ensures near { λ r. ⌜ r ≤ at + 6 ⌝ }
 {
-    if base == 1 {
-        return put_bytes(out, at, b"bool");
+    match BaseType::from_u32(base) {
+        BaseTypeCode::Known(known) => put_base_name(out, at, known),
+        BaseTypeCode::Unknown => at,
     }
-    if base == 2 {
-        return put_bytes(out, at, b"int");
-    }
-    if base == 3 {
-        return put_bytes(out, at, b"float");
-    }
-    if base == 19 {
-        return put_bytes(out, at, b"uint");
-    }
-    if base == 39 {
-        return put_bytes(out, at, b"double");
-    }
-    at
+}
+
+// Writes rows, `x` and columns.
+fn put_matrix(out: &mut [u8], at: usize, rows: u32, columns: u32) -> usize
+    requires { ⌜ at + 21 ≤ farthest ⌝ }
+    ensures text { λ r. ⌜ Put (now (out .entry)) at (decimal rows ++ (120 ∷ decimal columns)) (now (out .exit)) r ⌝ }
+    ensures near { λ r. ⌜ r ≤ at + 21 ⌝ }
+{
+    let after_rows = put_decimal(out, at, rows);
+    let after_x = put_byte(out, after_rows, b'x');
+    put_decimal(out, after_x, columns)
 }
 
 // Writes what follows the base: nothing for a scalar, the columns of a vector, rows, `x` and columns of a matrix.
+fn put_class_dimensions(
+    out: &mut [u8],
+    at: usize,
+    class: VariableClass,
+    rows: u32,
+    columns: u32,
+) -> usize
+    requires { ⌜ at + 21 ≤ farthest ⌝ }
+    ensures text { λ r. ⌜ Put (now (out .entry)) at (bytesOf (classDimensions (classEnumerator class) rows columns)) (now (out .exit)) r ⌝ }
+    ensures near { λ r. ⌜ r ≤ at + 21 ⌝ }
+{
+    match class {
+        VariableClass::Scalar => at,
+        VariableClass::Vector => put_decimal(out, at, columns),
+        VariableClass::MatrixRows => put_matrix(out, at, rows, columns),
+        VariableClass::MatrixColumns => put_matrix(out, at, rows, columns),
+        VariableClass::Object => at,
+        VariableClass::Struct => at,
+        VariableClass::InterfaceClass => at,
+        VariableClass::InterfacePointer => at,
+    }
+}
+
+// The same for a class by its number; nothing beyond the table.
 fn put_dimensions(out: &mut [u8], at: usize, class: u32, rows: u32, columns: u32) -> usize
     requires { ⌜ at + 21 ≤ farthest ⌝ }
     ensures text { λ r. ⌜ Put (now (out .entry)) at (bytesOf (dimensions class rows columns)) (now (out .exit)) r ⌝ }
     ensures near { λ r. ⌜ r ≤ at + 21 ⌝ }
 {
-    if class == 0 {
-        return at;
+    match VariableClass::from_u32(class) {
+        VariableClassCode::Known(known) => put_class_dimensions(out, at, known, rows, columns),
+        VariableClassCode::Unknown => at,
     }
-    if class == 1 {
-        return put_decimal(out, at, columns);
-    }
-    if class < 4 {
-        let after_rows = put_decimal(out, at, rows);
-        let after_x = put_byte(out, after_rows, b'x');
-        return put_decimal(out, after_x, columns);
-    }
-    at
 }
 
 // Writes `[N]` where there are elements.
@@ -160,15 +212,15 @@ pub fn hlsl_type_name<'a>(chunk: &'a [u8], edits: &'a [u8], t: TypeDesc, out: &m
     ensures out { λ _. ⌜ now (out .exit) ≡ outputOf (fitting (length (now (out .entry))) (typeName (now (chunk .entry)) (now (edits .entry)) t)) (now (out .entry)) ⌝ }
 {
     let own = t.name;
-    if !printable(chunk, edits, own) {
-        return emit::refuse(out, 16);
+    if !emit::printable(chunk, edits, own) {
+        return emit::refuse(out, NOT_READABLE);
     }
     if !fields_fit(t) {
-        return emit::refuse(out, 16);
+        return emit::refuse(out, NOT_READABLE);
     }
     let name = reflection::name_part(chunk, edits, own);
     if !has_spelling(name, t) {
-        return emit::refuse(out, 18);
+        return emit::refuse(out, NO_SPELLING);
     }
     let end = put_spelling(out, 0, name, t);
     emit::finish(out, end)
@@ -186,18 +238,18 @@ pub fn declaration<'a>(
     ensures out { λ _. ⌜ now (out .exit) ≡ outputOf (fitting (length (now (out .entry))) (declaration (now (chunk .entry)) (now (edits .entry)) t name)) (now (out .entry)) ⌝ }
 {
     let own = t.name;
-    if !printable(chunk, edits, own) {
-        return emit::refuse(out, 16);
+    if !emit::printable(chunk, edits, own) {
+        return emit::refuse(out, NOT_READABLE);
     }
     if !fields_fit(t) {
-        return emit::refuse(out, 16);
+        return emit::refuse(out, NOT_READABLE);
     }
-    if !printable(chunk, edits, name) {
-        return emit::refuse(out, 16);
+    if !emit::printable(chunk, edits, name) {
+        return emit::refuse(out, NOT_READABLE);
     }
     let type_name = reflection::name_part(chunk, edits, own);
     if !has_spelling(type_name, t) {
-        return emit::refuse(out, 18);
+        return emit::refuse(out, NO_SPELLING);
     }
     let end = put_declaration(out, type_name, t, reflection::name_part(chunk, edits, name));
     emit::finish(out, end)

@@ -20,6 +20,7 @@ use Rattle.reading.specs.Step as ReadStep
 use Rattle.reading.specs.Read
 use Rattle.readable.specs.Readable
 use Rattle.emit.specs.Digits
+use Rattle.emit.specs.Printable
 use Rattle.emit.specs.Written
 use Rattle.writing.specs.Step
 use Rattle.writing.specs.Records
@@ -55,7 +56,7 @@ unfolding Utf8.run Utf8.wellFormed Strings.untilNul Strings.ifWellFormed Strings
 texts = tt
 
 unfoldable codes : Unit {0}
-unfolding Table.lookup Table.known Flags.bindingFlagsAllowed Microsoft.inputTypes Microsoft.srvDimensions Microsoft.variableClasses Microsoft.variableTypes Variable.spelled Variable.baseTypes
+unfolding Table.lookup Table.known Flags.bindingFlagsAllowed Microsoft.inputTypes Microsoft.srvDimensions Microsoft.variableClasses Variable.baseTypes
 codes = tt
 
 unfoldable reflections : Unit {0}
@@ -119,7 +120,7 @@ unfolding Digits.digitsBefore Digits.decimal Names.baseName Spelling.dimensions 
 spelled = tt
 
 unfoldable declared : Unit {0}
-unfolding spelled Spelling.printable Spelling.fieldsFit Spelling.typeName Spelling.declaration
+unfolding spelled Printable.printable Spelling.fieldsFit Spelling.typeName Spelling.declaration
 declared = tt
 
 unfoldable parsed : Unit {0}

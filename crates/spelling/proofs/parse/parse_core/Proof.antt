@@ -3,12 +3,12 @@ use mathlib.Core.Path.{sym, ap, _∙_}
 use mathlib.Core.List.{List}
 use Prim.Native.Nat.{ℕ}
 use borrow.Author.Needs.{needs}
-use lib.ListN.{take}
+use lib.ListN.{drop}
 use lib.Seq.{length-take-le}
-use Rattle.spelling.specs.Names.{baseNumber}
-use Rattle.spelling.specs.Grammar.{shape, spelledType, withShape}
+use Rattle.codes.specs.Variable.{baseTypeRow}
+use Rattle.spelling.specs.Grammar.{shape, spelledType, withShape, baseRead}
 use Rattle.spelling.proofs.ParseParts.{part-from}
-use Rattle.spelling.proofs.ParseTypes.{is-value, is-nothing, core-known-base, core-unknown-base}
+use Rattle.spelling.proofs.ParseTypes.{core-known-base, core-unknown-base}
 use Rattle.spelling.proofs.parse.parse_core.Statement.{statement}
 use Rattle.spelling.proofs.parse.parse_core.Tie as tie
 
@@ -36,7 +36,7 @@ returns c =
     let a = c .before .before .before .before .before .before .before .args in
     let text = a .text .now in
     let digit = c .before .before .before .before .before .first-between in
-    let unknown = is-nothing (baseNumber (take (digit .result) text)) (c .before .before .before .parse-base .ensures) (c .before .enum-told .given .1) in
+    let unknown = sym (c .before .before .before .parse-base .ensures) ∙ ap baseRead (c .before .enum-told .given .1) in
     c .not-understood .ensures ∙ ap spelledType (sym (core-unknown-base text (a .elements) (digit .result) (digit .ensures .0) unknown))
 
 sub-parse-shape : tie.Need-sub-parse-shape
@@ -51,16 +51,22 @@ part-parse-shape-end c = search needs
 parse-shape-requires : tie.Need-parse-shape-requires
 parse-shape-requires c κs = search needs
 
+to-u32-requires : tie.Need-to-u32-requires
+to-u32-requires c κs = search needs
+
 returns-2 : tie.Need-returns-2
 returns-2 c =
-    let a = c .before .before .before .before .before .before .before .before .before .args in
+    let at-parse-base = c .before .before .before .before .before .before in
+    let digit = at-parse-base .before .before .first-between in
+    let a = at-parse-base .before .before .before .before .args in
     let text = a .text .now in
-    let digit = c .before .before .before .before .before .before .before .first-between in
-    let base = c .before .before .before .base .given in
-    let known = is-value (baseNumber (take (digit .result) text)) (c .before .before .before .before .before .parse-base .ensures) (base .1) in
+    let base = c .before .before .before .before .base .given in
+    let known = sym (at-parse-base .parse-base .ensures) ∙ ap baseRead (base .1) in
+    let number = c .before .to-u32 .ensures in
     c .parse-shape .ensures
-    ∙ ap (λ (l : List ℕ). spelledType (withShape (base .0 .0) (a .elements) (shape l))) (part-from (digit .result) text)
-    ∙ ap spelledType (sym (core-known-base text (a .elements) (digit .result) (digit .ensures .0) (base .0 .0) known))
+    ∙ ap (λ (l : List ℕ). spelledType (withShape (c .before .to-u32 .result) (a .elements) (shape l))) (part-from (digit .result) text)
+    ∙ ap (λ (n : ℕ). spelledType (withShape n (a .elements) (shape (drop (digit .result) text)))) number
+    ∙ ap spelledType (sym (core-known-base text (a .elements) (digit .result) (digit .ensures .0) (baseTypeRow (base .0 .0) .1) known))
 
 pub parse-core-spec : {M : Type 1} → statement M
 parse-core-spec =
@@ -76,5 +82,6 @@ parse-core-spec =
     sub-parse-shape
     part-parse-shape-start
     part-parse-shape-end
+    to-u32-requires
     parse-shape-requires
     returns-2)

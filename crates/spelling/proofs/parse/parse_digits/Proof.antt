@@ -4,14 +4,15 @@ use Prim.Native.Nat.{_≤_, _<_, _-_}
 use native.Mathlib.Omega.{arith}
 use borrow.Author.Needs.{needs}
 use lib.ListN.{length, getD}
-use Rattle.spelling.specs.Grammar.{digitsBelow65536, numberRead}
+use Rattle.reflection.specs.Limits.{u16Limit}
+use Rattle.spelling.specs.Grammar.{digitsAsU16, numberRead}
 use Rattle.spelling.proofs.ParseParts.{between, below, above}
 use Rattle.spelling.proofs.ParseNumbers.{numberFrom, number-from-end, number-from-other, number-from-digit, number-from-too-large, digits-empty, digits-from-first}
 use Rattle.spelling.proofs.parse.parse_digits.Statement.{statement}
 use Rattle.spelling.proofs.parse.parse_digits.Tie as tie
 
 abbrev Inv-loop : tie.InvT-loop
-Inv-loop digits value₀ i₀ value i = (i ≤ length digits) × (value < 65536) × (digitsBelow65536 digits ≡ numberFrom digits i value)
+Inv-loop digits value₀ i₀ value i = (i ≤ length digits) × (value < u16Limit) × (digitsAsU16 digits ≡ numberFrom digits i value)
 
 abbrev μ-loop : tie.MeasureT-loop
 μ-loop digits value₀ i₀ value i = length digits - i

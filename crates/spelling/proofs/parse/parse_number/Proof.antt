@@ -3,7 +3,7 @@ use mathlib.Core.Path.{sym, ap, _∙_}
 use mathlib.Core.List.{List}
 use Prim.Native.Nat.{ℕ}
 use borrow.Author.Needs.{needs}
-use Rattle.spelling.specs.Grammar.{digitsBelow65536, numberRead}
+use Rattle.spelling.specs.Grammar.{digitsAsU16, numberRead}
 use Rattle.spelling.proofs.ParseParts.{part-from}
 use Rattle.spelling.proofs.ParseNumbers.{number-empty, number-plus, number-no-plus}
 use Rattle.spelling.proofs.parse.parse_number.Statement.{statement}
@@ -31,7 +31,7 @@ returns-2 : tie.Need-returns-2
 returns-2 c =
     let text = c .before .before .before .before .before .before .args .text .now in
     c .parse-digits .ensures
-    ∙ ap (λ (l : List ℕ). numberRead (digitsBelow65536 l)) (part-from 1 text)
+    ∙ ap (λ (l : List ℕ). numberRead (digitsAsU16 l)) (part-from 1 text)
     ∙ ap numberRead (sym (number-plus text (c .before .before .before .before .if1 .left) (c .before .before .if2 .taken)))
 
 parse-digits-requires-2 : tie.Need-parse-digits-requires-2

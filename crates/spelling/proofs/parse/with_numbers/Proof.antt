@@ -30,9 +30,12 @@ returns-2 : tie.Need-returns-2
 unfolding withNumbers
 returns-2 c = search needs
 
+to-u32-requires : tie.Need-to-u32-requires
+to-u32-requires c κs = search needs
+
 returns-3 : tie.Need-returns-3
 unfolding withNumbers
-returns-3 c = simp (c .before .before .before .before .rows .given .1, c .before .columns .given .1)
+returns-3 c = simp (c .before .before .before .before .before .rows .given .1, c .before .before .columns .given .1, c .to-u32 .ensures)
 
 pub with-numbers-spec : {M : Type 1} → statement M
 with-numbers-spec =
@@ -46,4 +49,5 @@ with-numbers-spec =
     enum-told-2
     not-understood-requires-2
     returns-2
+    to-u32-requires
     returns-3)

@@ -7,7 +7,7 @@ use Prim.Native.Nat.{ℕ}
 use native.Mathlib.Omega.{arith}
 use lib.ListN.{length}
 use Rattle.spelling.specs.Spelling.{isSpelled, typeSpelling}
-use Rattle.spelling.proofs.WritePieces.{name-at-most}
+use Rattle.emit.proofs.NameLength.{name-at-most}
 use Rattle.spelling.proofs.WriteRefusals.{declared-type-unprintable, declared-fields-unfit, declared-name-unprintable, declared-unspelled, declared-spelled}
 use borrow.Author.Needs.{needs}
 use Rattle.spelling.proofs.write.declaration.Statement.{statement}

@@ -5,23 +5,17 @@ use borrow.Author.Needs.{needs}
 use Rattle.spelling.proofs.write.has_spelling.Statement.{statement}
 use Rattle.spelling.proofs.write.has_spelling.Tie as tie
 
-by-name-requires : tie.Need-by-name-requires
-by-name-requires c κs = search needs
-
 returns : tie.Need-returns
 returns c =
     let a = c .before .before .before .args in
     sym (own-name-spelled (a .name .now) (a .t) (sym (c .before .by-name .ensures) ∙ c .if1 .taken))
-
-has-base-name-requires : tie.Need-has-base-name-requires
-has-base-name-requires c κs = search needs
 
 returns-2 : tie.Need-returns-2
 returns-2 c =
     let a = c .before .before .before .before .before .before .args in
     let numbers = sym (c .before .before .before .before .by-name .ensures) ∙ c .before .before .before .if1 .left in
     let named = sym (c .before .before .has-base-name .ensures) ∙ c .before .if2 .taken in
-    sym (numbers-spelled (a .name .now) (a .t) numbers named)
+    c .has-dimensions .ensures ∙ sym (numbers-spelled (a .name .now) (a .t) numbers named)
 
 returns-3 : tie.Need-returns-3
 returns-3 c =
@@ -32,4 +26,11 @@ returns-3 c =
 
 pub has-spelling-spec : {M : Type 1} → statement M
 has-spelling-spec =
-    tie.close (tie.spec by-name-requires returns has-base-name-requires returns-2 returns-3)
+    tie.close
+    (tie.spec
+    (λ c κs. search needs)
+    returns
+    (λ c κs. search needs)
+    (λ c κs. search needs)
+    returns-2
+    returns-3)

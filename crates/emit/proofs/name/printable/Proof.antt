@@ -3,10 +3,10 @@ use mathlib.Core.Path.{_≡_, sym, ap, _∙_}
 use mathlib.Core.Bool.{true, false}
 use Rattle.text.specs.Utf8.{wellFormed}
 use Rattle.reflection.specs.Texts.{inPlace}
-use Rattle.spelling.specs.Spelling.{printable}
+use Rattle.emit.specs.Printable.{printable}
 use borrow.Author.Needs.{needs}
-use Rattle.spelling.proofs.write.printable.Statement.{statement}
-use Rattle.spelling.proofs.write.printable.Tie as tie
+use Rattle.emit.proofs.name.printable.Statement.{statement}
+use Rattle.emit.proofs.name.printable.Tie as tie
 
 in-place-requires : tie.Need-in-place-requires
 in-place-requires c κs = search needs

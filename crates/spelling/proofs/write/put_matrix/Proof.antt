@@ -1,0 +1,23 @@
+-- `put_matrix` meets its contract: rows, `x`, columns.
+use native.Mathlib.Omega.{arith}
+use Rattle.words.specs.Splice.{put-then}
+use borrow.Author.Needs.{needs}
+use Rattle.spelling.proofs.write.put_matrix.Statement.{statement}
+use Rattle.spelling.proofs.write.put_matrix.Tie as tie
+
+returns : tie.Need-returns
+returns c =
+    let rows = c .before .before .before .before .before .before .before .before .before .before .put-decimal .ensures in
+    let x = c .before .before .before .before .before .before .put-byte .ensures in
+    let columns = c .before .before .put-decimal2 .ensures in
+    (put-then (rows .0) (put-then x (columns .0)), omega (arith, rows .1, x .next, columns .1))
+
+pub put-matrix-spec : {M : Type 1} → statement M
+put-matrix-spec =
+    tie.close
+    (tie.spec
+    (λ c κs. search needs)
+    (λ c κs. search needs)
+    (λ c κs. search needs)
+    (λ c. search needs)
+    returns)
