@@ -1,0 +1,3 @@
+pub mod Sides
+pub mod Noninterference
+pub mod RoundTrip
