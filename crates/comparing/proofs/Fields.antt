@@ -2,15 +2,18 @@
 use mathlib.Core.Path.{_≡_, refl, sym, ap, _∙_}
 use mathlib.Core.Bool.{Bool, true, false, _&&_}
 use mathlib.Core.List.{[], _∷_}
-use borrow.Author.Tests.{eq-eqb, ne-eqb}
+use Prim.Native.Nat.{ℕ}
+use lib.Dec.{eqb}
+use borrow.Author.Tests.{eq-eqb}
 use Rattle.text.specs.Same.{sameBytes}
 use Rattle.reflection.specs.declared.Text.{Text}
 use Rattle.reflection.specs.declared.ResourceDef.{ResourceDef as Header}
 use Rattle.reflection.specs.declared.ResourceBinding.{ResourceBinding as BindingRecord}
 use Rattle.reflection.specs.declared.CBufferDef.{CBufferDef as BufferRecord}
 use Rattle.reflection.specs.declared.CBufferVariable.{CBufferVariable as VariableRecord}
-use Rattle.reflection.specs.Reflection.{TypeDesc, majorOf, rd11}
+use Rattle.reflection.specs.Reflection.{TypeDesc, majorOf, isSm5}
 use Rattle.reflection.specs.Decode.{bindingFrom, variableFrom, rd11From}
+use Rattle.reflection.proofs.Rd11Words.{rd11If, sm5-is, rd11-by-sm5}
 use Rattle.writing.specs.Same.{sameType, sameBinding, sameVariable, rd11Numbers}
 use Rattle.comparing.specs.Fields.{sameFields, headerNumbers}
 
@@ -70,33 +73,28 @@ module _ (same : Text → Text → Bool) where
         pub by-type : same (x .«default_value») (y .«default_value») ≡ true → equal-variables ≡ sameType same t u
         by-type e = by-default ∙ rw e
 
--- Two headers. Major 4 has no RD11 words.
-no-rd11 : (h : Header) → majorOf (h .«target_version») ≡ 4 → rd11Numbers (rd11From h) ≡ []
-unfolding rd11Numbers rd11From
-no-rd11 h four = rw (eq-eqb (majorOf (h .«target_version»)) 4 four, rd11From)
-
-some-rd11 : (h : Header) → (majorOf (h .«target_version») ≡ 4 → ⊥)
-    → rd11Numbers (rd11From h) ≡ h .rd11 .identifier ∷ h .rd11 .«resource_binding_stride» ∷ h .rd11 .«interface_slot_count» ∷ []
-unfolding rd11Numbers rd11From
-some-rd11 h other = rw (ne-eqb (majorOf (h .«target_version»)) 4 other, rd11From)
-
+-- Two headers. Only major 5 has RD11 words.
 module _ (x y : Header) (version : x .«target_version» ≡ y .«target_version») (flags : x .«compile_flags» ≡ y .«compile_flags») where
   by-words : sameBytes (headerNumbers x) (headerNumbers y) ≡ sameBytes (rd11Numbers (rd11From x)) (rd11Numbers (rd11From y))
   unfolding sameBytes headerNumbers
   by-words = rw (eq-eqb (x .«target_version») (y .«target_version») version, eq-eqb (x .«compile_flags») (y .«compile_flags») flags)
 
-  pub equal-major-4 : majorOf (x .«target_version») ≡ 4 → sameBytes (headerNumbers x) (headerNumbers y) ≡ true
-  unfolding sameBytes
-  equal-major-4 four =
-      let p = no-rd11 x four in
-      let q = no-rd11 y (ap majorOf (sym version) ∙ four) in
-      by-words ∙ (λ z. sameBytes (p z) (q z))
+  same-major : isSm5 (rd11From x) ≡ isSm5 (rd11From y)
+  same-major = sm5-is x ∙ ap (λ (v : ℕ). eqb (majorOf v) 5) version ∙ sym (sm5-is y)
 
-  pub by-rd11 : (majorOf (x .«target_version») ≡ 4 → ⊥)
+  by-major : (sm5 : Bool) → isSm5 (rd11From x) ≡ sm5 → sameBytes (headerNumbers x) (headerNumbers y) ≡ sameBytes (rd11Numbers (rd11If sm5 x)) (rd11Numbers (rd11If sm5 y))
+  by-major sm5 e =
+      let p = rd11-by-sm5 x sm5 (sym e) in
+      let q = rd11-by-sm5 y sm5 (sym e ∙ same-major) in
+      by-words ∙ (λ z. sameBytes (rd11Numbers (p z)) (rd11Numbers (q z)))
+
+  pub equal-without-rd11 : isSm5 (rd11From x) ≡ false → sameBytes (headerNumbers x) (headerNumbers y) ≡ true
+  unfolding sameBytes rd11Numbers
+  equal-without-rd11 other = by-major false other
+
+  pub by-rd11 : isSm5 (rd11From x) ≡ true
       → sameBytes (headerNumbers x) (headerNumbers y)
       ≡ sameBytes (x .rd11 .identifier ∷ x .rd11 .«resource_binding_stride» ∷ x .rd11 .«interface_slot_count» ∷ [])
       (y .rd11 .identifier ∷ y .rd11 .«resource_binding_stride» ∷ y .rd11 .«interface_slot_count» ∷ [])
-  by-rd11 other =
-      let p = some-rd11 x other in
-      let q = some-rd11 y (λ e. other (ap majorOf version ∙ e)) in
-      by-words ∙ (λ z. sameBytes (p z) (q z))
+  unfolding rd11Numbers
+  by-rd11 five = by-major true five

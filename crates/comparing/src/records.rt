@@ -125,7 +125,7 @@ pub fn same_fields<'a>(chunk: &'a [u8], edits: &'a [u8], x: CBufferDef, y: CBuff
     same_words(&a, &b)
 }
 
-// Whether two headers have the same version, flags and RD11 words; those of major 4 are not looked at.
+// Whether two headers have the same version, flags and RD11 words; only major 5 has these.
 pub fn same_numbers(x: ResourceDef, y: ResourceDef) -> bool
     ensures { λ r. ⌜ r ≡ sameBytes (headerNumbers x) (headerNumbers y) ⌝ }
 {
@@ -135,7 +135,7 @@ pub fn same_numbers(x: ResourceDef, y: ResourceDef) -> bool
     if x.compile_flags != y.compile_flags {
         return false;
     }
-    if x.target_version / 256 % 256 == 4 {
+    if !reflection::is_sm5(x) {
         return true;
     }
     let a = [

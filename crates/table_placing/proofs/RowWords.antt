@@ -39,12 +39,12 @@ rd11-words h false = noRd11
 rd11-words h true = rd11 (h .rd11 .identifier) (h .rd11 .«resource_binding_stride») (h .rd11 .«interface_slot_count»)
 
 abbrev rd11-by : Header → Bool → Rd11
-rd11-by h m = elim m [ true ↦ noRd11 | false ↦ rd11 (h .rd11 .identifier) (h .rd11 .«resource_binding_stride») (h .rd11 .«interface_slot_count») ]
+rd11-by h m = elim m [ true ↦ rd11 (h .rd11 .identifier) (h .rd11 .«resource_binding_stride») (h .rd11 .«interface_slot_count») | false ↦ noRd11 ]
 
--- The RD11 words are there in major 5 and not in major 4.
+-- The RD11 words are there in major 5 and in no other.
 pub rd11-is : (h : Header) → rd11From h ≡ rd11-words h (isSm5 (rd11From h))
 unfolding rd11From
-rd11-is h = go (eqb (majorOf (h .«target_version»)) 4)
+rd11-is h = go (eqb (majorOf (h .«target_version»)) 5)
   where
     go : (m : Bool) → rd11-by h m ≡ rd11-words h (isSm5 (rd11-by h m))
     go true = refl

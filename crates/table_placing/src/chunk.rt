@@ -72,8 +72,8 @@ pub fn write_chunk<'a>(
     ensures { λ r. ⌜ ChunkWritten (now (chunk .entry)) (now (edits .entry)) def (now (bindings .entry)) (now (buffers .entry)) (now (variables .entry)) (now (types .entry)) (now (s .entry)) (now (s .exit)) (now (out .entry)) (now (out .exit)) r ⌝ }
 {
     begin_pools(s);
-    let sm5 = readable::is_sm5(def);
-    let wide = readable::is_wide(def);
+    let sm5 = reflection::is_sm5(def);
+    let wide = reflection::is_wide(def);
     let start = 4 * header_size(sm5);
     let count = def.binding_count as usize;
     let named = place_outer_names(

@@ -19,11 +19,7 @@ fn outer_name(table: &[u32], width: usize, i: usize) -> Text
             length: table[k + 2],
         };
     }
-    Text {
-        source: 0,
-        place: 0,
-        length: 0,
-    }
+    reflection::in_chunk(0, 0)
 }
 
 // Places the names of n records of a table, and stores their offsets every `step` words from `start` on.
