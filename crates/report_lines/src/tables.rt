@@ -1,5 +1,6 @@
 // The tables, record by record: all bindings, then each buffer with its variables, and each variable with its types.
-ghost use Prim.Native.Nat.{_+_, _≤_};
+ghost use Prim.Native.Nat.{_+_, _≤_, _<_};
+ghost use Rattle.reflection.specs.Limits.{typeLevels};
 use crate::lines::bind_line;
 use crate::lines::buf_line;
 use crate::lines::mem_line;
@@ -9,11 +10,12 @@ use crate::lines::type_line;
 use crate::lines::var_line;
 use reflection::ResourceDef;
 use reflection::TYPE_LEVELS;
+use reflection::is_sm5;
 
 // Goes to the next member. `left` has, for each level, how many members are still to come; the deepest level that has any, from `depth` upwards,
 // gives up one. Answers the member's depth, or 0 where no member is still to come.
 fn next_member(left: &mut [u32; TYPE_LEVELS], depth: usize) -> usize
-    requires { ⌜ depth ≤ 64 ⌝ }
+    requires { ⌜ depth < typeLevels ⌝ }
     ensures { λ r. ⌜ r ≤ depth + 1 ⌝ }
 {
     let mut below = depth + 1;
@@ -130,10 +132,6 @@ fn binding_lines(
         bind_line(out, used, chunk, reflection::binding_at(bindings, i));
         i += 1;
     }
-}
-
-fn is_sm5(def: ResourceDef) -> bool {
-    def.target_version / 256 % 256 == 5
 }
 
 // All lines of a chunk that was read.

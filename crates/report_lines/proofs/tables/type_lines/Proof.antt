@@ -1,11 +1,12 @@
 -- `type_lines` is safe and ends: each turn leaves one node less, and the depth stays within the levels.
 use borrow.Author.Needs.{needs}
-use Prim.Native.Nat.{_-_, _≤_}
+use Prim.Native.Nat.{_-_, _<_}
+use Rattle.reflection.specs.Limits.{typeLevels}
 use Rattle.report_lines.proofs.tables.type_lines.Statement.{statement}
 use Rattle.report_lines.proofs.tables.type_lines.Tie as tie
 
 abbrev Inv-loop : tie.InvT-loop
-Inv-loop out₀ used₀ chunk sm5 types first end left₀ depth₀ next₀ out used left depth next = depth ≤ 64
+Inv-loop out₀ used₀ chunk sm5 types first end left₀ depth₀ next₀ out used left depth next = depth < typeLevels
 
 abbrev μ-loop : tie.MeasureT-loop
 μ-loop out₀ used₀ chunk sm5 types first end left₀ depth₀ next₀ out used left depth next = end - next
