@@ -12,23 +12,23 @@ use Rattle.reflection.specs.declared.ResourceBinding.{ResourceBinding as Bindin
 use Rattle.reflection.specs.declared.CBufferDef.{CBufferDef as BufferRecord}
 use Rattle.reflection.specs.declared.CBufferVariable.{CBufferVariable as VariableRecord}
 use Rattle.reflection.specs.Reflection.{TypeDesc, majorOf, isSm5}
-use Rattle.reflection.specs.Decode.{bindingFrom, variableFrom, rd11From}
+use Rattle.reflection.specs.Decode.{bindingFromTable, variableFromTable, rd11FromHeader}
 use Rattle.reflection.proofs.Rd11Words.{rd11If, sm5-is, rd11-by-sm5}
 use Rattle.writing.specs.Same.{sameType, sameBinding, sameVariable, rd11Numbers}
 use Rattle.comparing.specs.Fields.{sameFields, headerNumbers}
 
 module _ (same : Text → Text → Bool) where
   module _ (x y : BindingRecord) where
-    pub other-binding : same (x .name) (y .name) ≡ false → sameBinding same same (bindingFrom x) (bindingFrom y) ≡ false
-    unfolding sameBinding bindingFrom
+    pub other-binding : same (x .name) (y .name) ≡ false → sameBinding same same (bindingFromTable x) (bindingFromTable y) ≡ false
+    unfolding sameBinding bindingFromTable
     other-binding e = rw e
 
     pub binding-numbers : same (x .name) (y .name) ≡ true
-        → sameBinding same same (bindingFrom x) (bindingFrom y)
+        → sameBinding same same (bindingFromTable x) (bindingFromTable y)
         ≡ sameBytes
         (x .«input_type» ∷ x .«return_type» ∷ x .dimension ∷ x .«num_samples» ∷ x .«bind_point» ∷ x .«bind_count» ∷ x .flags .0 ∷ x .space ∷ x .id ∷ [])
         (y .«input_type» ∷ y .«return_type» ∷ y .dimension ∷ y .«num_samples» ∷ y .«bind_point» ∷ y .«bind_count» ∷ y .flags .0 ∷ y .space ∷ y .id ∷ [])
-    unfolding sameBinding bindingFrom
+    unfolding sameBinding bindingFromTable
     binding-numbers e = rw e
 
   module _ (x y : BufferRecord) where
@@ -44,7 +44,7 @@ module _ (same : Text → Text → Bool) where
   -- Two variables with their types.
   module _ (x y : VariableRecord) (t u : TypeDesc Text) where
     abbrev equal-variables : Bool
-    equal-variables = sameVariable same same (variableFrom x t) (variableFrom y u)
+    equal-variables = sameVariable same same (variableFromTable x t) (variableFromTable y u)
 
     abbrev equal-numbers : Bool
     equal-numbers =
@@ -53,7 +53,7 @@ module _ (same : Text → Text → Bool) where
 
     variable-parts : equal-variables
         ≡ same (x .name) (y .name) && (equal-numbers && (same (x .«default_value») (y .«default_value») && sameType same t u))
-    unfolding sameVariable variableFrom
+    unfolding sameVariable variableFromTable
     variable-parts = refl
 
     pub other-variable : same (x .name) (y .name) ≡ false → equal-variables ≡ false
@@ -75,24 +75,24 @@ module _ (same : Text → Text → Bool) where
 
 -- Two headers. Only major 5 has RD11 words.
 module _ (x y : Header) (version : x .«target_version» ≡ y .«target_version») (flags : x .«compile_flags» ≡ y .«compile_flags») where
-  by-words : sameBytes (headerNumbers x) (headerNumbers y) ≡ sameBytes (rd11Numbers (rd11From x)) (rd11Numbers (rd11From y))
+  by-words : sameBytes (headerNumbers x) (headerNumbers y) ≡ sameBytes (rd11Numbers (rd11FromHeader x)) (rd11Numbers (rd11FromHeader y))
   unfolding sameBytes headerNumbers
   by-words = rw (eq-eqb (x .«target_version») (y .«target_version») version, eq-eqb (x .«compile_flags») (y .«compile_flags») flags)
 
-  same-major : isSm5 (rd11From x) ≡ isSm5 (rd11From y)
+  same-major : isSm5 (rd11FromHeader x) ≡ isSm5 (rd11FromHeader y)
   same-major = sm5-is x ∙ ap (λ (v : ℕ). eqb (majorOf v) 5) version ∙ sym (sm5-is y)
 
-  by-major : (sm5 : Bool) → isSm5 (rd11From x) ≡ sm5 → sameBytes (headerNumbers x) (headerNumbers y) ≡ sameBytes (rd11Numbers (rd11If sm5 x)) (rd11Numbers (rd11If sm5 y))
+  by-major : (sm5 : Bool) → isSm5 (rd11FromHeader x) ≡ sm5 → sameBytes (headerNumbers x) (headerNumbers y) ≡ sameBytes (rd11Numbers (rd11If sm5 x)) (rd11Numbers (rd11If sm5 y))
   by-major sm5 e =
       let p = rd11-by-sm5 x sm5 (sym e) in
       let q = rd11-by-sm5 y sm5 (sym e ∙ same-major) in
       by-words ∙ (λ z. sameBytes (rd11Numbers (p z)) (rd11Numbers (q z)))
 
-  pub equal-without-rd11 : isSm5 (rd11From x) ≡ false → sameBytes (headerNumbers x) (headerNumbers y) ≡ true
+  pub equal-without-rd11 : isSm5 (rd11FromHeader x) ≡ false → sameBytes (headerNumbers x) (headerNumbers y) ≡ true
   unfolding sameBytes rd11Numbers
   equal-without-rd11 other = by-major false other
 
-  pub by-rd11 : isSm5 (rd11From x) ≡ true
+  pub by-rd11 : isSm5 (rd11FromHeader x) ≡ true
       → sameBytes (headerNumbers x) (headerNumbers y)
       ≡ sameBytes (x .rd11 .identifier ∷ x .rd11 .«resource_binding_stride» ∷ x .rd11 .«interface_slot_count» ∷ [])
       (y .rd11 .identifier ∷ y .rd11 .«resource_binding_stride» ∷ y .rd11 .«interface_slot_count» ∷ [])

@@ -12,7 +12,7 @@ use Rattle.reflection.specs.Decode.{recordsFrom}
 use Rattle.writing.specs.Same.{sameList}
 use Rattle.type_equality.specs.Trees.{treeAt}
 use Rattle.type_equality.proofs.Trees.{tree-up}
-use Rattle.table_placing.specs.Held.{rootAt, countAt, firstVariable}
+use Rattle.table_placing.specs.TableReflection.{rootAt, countAt, firstVariable}
 
 -- Lists that are not as long are not equal.
 pub other-lengths : {A : Type 0} (same : A → A → Bool) (xs ys : List A) → (length xs ≡ length ys → ⊥) → sameList same xs ys ≡ false

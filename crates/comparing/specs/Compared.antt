@@ -1,3 +1,4 @@
+-- Vocabulary of internal contracts: no contract of an exported function and no demand cites it.
 -- What comparing the variables of two buffers answers: whether they are equal, and where they are, the nodes after their types.
 use mathlib.Core.Path.{_≡_}
 use mathlib.Core.Bool.{Bool, true}
@@ -6,11 +7,11 @@ use Prim.Native.Nat.{ℕ, _+_}
 use Rattle.reflection.specs.declared.Text.{Text}
 use Rattle.reflection.specs.Decode.{recordsFrom}
 use Rattle.writing.specs.Same.{sameList, sameVariable}
-use Rattle.table_placing.specs.Held.{rootAt, variableHeld}
+use Rattle.table_placing.specs.TableReflection.{rootAt, variableInTable}
 use Rattle.comparing.specs.declared.ComparedVariables.{ComparedVariables}
 
 -- n variables of each table, from variable j on.
 pub record VariablesCompared (same : Text → Text → Bool) (variables types other-variables other-types : List ℕ) (j n : ℕ) (r : ComparedVariables) : Type 0 where
-  pub answer : r .same ≡ sameList (sameVariable same same) (recordsFrom (variableHeld variables types) j n) (recordsFrom (variableHeld other-variables other-types) j n)
+  pub answer : r .same ≡ sameList (sameVariable same same) (recordsFrom (variableInTable variables types) j n) (recordsFrom (variableInTable other-variables other-types) j n)
   pub root : r .same ≡ true → r .root ≡ rootAt types (j + n)
   pub other-root : r .same ≡ true → r .«other_root» ≡ rootAt other-types (j + n)

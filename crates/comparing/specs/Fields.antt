@@ -1,3 +1,4 @@
+-- Vocabulary of internal contracts: no contract of an exported function and no demand cites it.
 -- Parts of a reflection that are compared at once.
 use mathlib.Core.Bool.{Bool, _&&_}
 use mathlib.Core.List.{List, [], _∷_}
@@ -8,7 +9,7 @@ use Rattle.reflection.specs.declared.ResourceDef.{ResourceDef as Header}
 use Rattle.reflection.specs.declared.CBufferDef.{CBufferDef as BufferRecord}
 use Rattle.reflection.specs.Reflection.{ResourceBinding}
 use Rattle.reflection.specs.Records.{bindingAt}
-use Rattle.reflection.specs.Decode.{bindingFrom, rd11From}
+use Rattle.reflection.specs.Decode.{bindingFromTable, rd11FromHeader}
 use Rattle.writing.specs.Same.{rd11Numbers}
 
 -- Two buffers' names and numbers, but not their variables.
@@ -17,8 +18,8 @@ sameFields same x y = same (x .name) (y .name) && sameBytes (x .size ∷ x .flag
 
 -- A header's version, flags and RD11 words.
 unfoldable pub headerNumbers : Header → List ℕ
-headerNumbers h = h .«target_version» ∷ h .«compile_flags» ∷ rd11Numbers (rd11From h)
+headerNumbers h = h .«target_version» ∷ h .«compile_flags» ∷ rd11Numbers (rd11FromHeader h)
 
 -- Binding i of a table.
-unfoldable pub bindingHeld : List ℕ → ℕ → ResourceBinding Text
-bindingHeld bindings i = bindingFrom (bindingAt bindings i)
+unfoldable pub bindingInTable : List ℕ → ℕ → ResourceBinding Text
+bindingInTable bindings i = bindingFromTable (bindingAt bindings i)

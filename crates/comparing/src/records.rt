@@ -3,7 +3,7 @@ ghost use mathlib.Core.Path.{_≡_};
 ghost use Prim.Native.Nat.{_≤_};
 ghost use Rattle.text.specs.Same.{sameBytes};
 ghost use Rattle.reflection.specs.Nodes.{typeLevels};
-ghost use Rattle.reflection.specs.Decode.{bindingFrom, variableFrom};
+ghost use Rattle.reflection.specs.Decode.{bindingFromTable, variableFromTable};
 ghost use Rattle.writing.specs.Same.{sameBinding, sameVariable};
 ghost use Rattle.type_equality.specs.Same.{sameName};
 ghost use Rattle.type_equality.specs.Trees.{farthestNode, typeTree};
@@ -38,7 +38,7 @@ pub fn same_binding<'a>(
     x: ResourceBinding,
     y: ResourceBinding,
 ) -> bool
-    ensures { λ r. ⌜ r ≡ sameBinding (sameName (now (chunk .entry)) (now (edits .entry))) (sameName (now (chunk .entry)) (now (edits .entry))) (bindingFrom x) (bindingFrom y) ⌝ }
+    ensures { λ r. ⌜ r ≡ sameBinding (sameName (now (chunk .entry)) (now (edits .entry))) (sameName (now (chunk .entry)) (now (edits .entry))) (bindingFromTable x) (bindingFromTable y) ⌝ }
 {
     if !type_equality::same_name(chunk, edits, x.name, y.name) {
         return false;
@@ -81,7 +81,7 @@ pub fn same_variable<'a>(
 ) -> bool
     requires { ⌜ (i ≤ farthestNode) × (j ≤ farthestNode) ⌝ }
     ensures { λ r. ⌜ r ≡ sameVariable (sameName (now (chunk .entry)) (now (edits .entry))) (sameName (now (chunk .entry)) (now (edits .entry)))
-        (variableFrom x (typeTree (now (types .entry)) typeLevels i)) (variableFrom y (typeTree (now (others .entry)) typeLevels j)) ⌝ }
+        (variableFromTable x (typeTree (now (types .entry)) typeLevels i)) (variableFromTable y (typeTree (now (others .entry)) typeLevels j)) ⌝ }
 {
     if !type_equality::same_name(chunk, edits, x.name, y.name) {
         return false;

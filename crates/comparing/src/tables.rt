@@ -5,8 +5,8 @@ ghost use Rattle.reflection.specs.Decode.{recordsFrom};
 ghost use Rattle.reflection.specs.Limits.{variableRoom, typeRoom};
 ghost use Rattle.writing.specs.Same.{sameList, sameBinding, sameBuffer, sameDef};
 ghost use Rattle.type_equality.specs.Same.{sameName};
-ghost use Rattle.table_placing.specs.Held.{rootAt, firstVariable, bufferHeld, reflectionHeld, Sized};
-ghost use Rattle.comparing.specs.Fields.{bindingHeld};
+ghost use Rattle.table_placing.specs.TableReflection.{rootAt, firstVariable, bufferInTable, reflectionInTables, Sized};
+ghost use Rattle.comparing.specs.Fields.{bindingInTable};
 ghost use Rattle.comparing.specs.Compared.{VariablesCompared};
 use crate::ComparedVariables;
 use crate::records::same_binding;
@@ -25,7 +25,7 @@ fn same_bindings<'a>(
     count: usize,
 ) -> bool
     ensures { λ r. ⌜ r ≡ sameList (sameBinding (sameName (now (chunk .entry)) (now (edits .entry))) (sameName (now (chunk .entry)) (now (edits .entry))))
-        (recordsFrom (bindingHeld (now (bindings .entry))) 0 count) (recordsFrom (bindingHeld (now (others .entry))) 0 count) ⌝ }
+        (recordsFrom (bindingInTable (now (bindings .entry))) 0 count) (recordsFrom (bindingInTable (now (others .entry))) 0 count) ⌝ }
 {
     let mut i = 0;
     while i < count {
@@ -97,8 +97,8 @@ fn same_buffers<'a>(
     requires { ⌜ (rootAt (now types) (firstVariable (now buffers) count) ≤ typeRoom)
         × (rootAt (now «other_types») (firstVariable (now «other_buffers») count) ≤ typeRoom) ⌝ }
     ensures { λ r. ⌜ r ≡ sameList (sameBuffer (sameName (now (chunk .entry)) (now (edits .entry))) (sameName (now (chunk .entry)) (now (edits .entry))))
-        (recordsFrom (bufferHeld (now (buffers .entry)) (now (variables .entry)) (now (types .entry))) 0 count)
-        (recordsFrom (bufferHeld (now («other_buffers» .entry)) (now («other_variables» .entry)) (now («other_types» .entry))) 0 count) ⌝ }
+        (recordsFrom (bufferInTable (now (buffers .entry)) (now (variables .entry)) (now (types .entry))) 0 count)
+        (recordsFrom (bufferInTable (now («other_buffers» .entry)) (now («other_variables» .entry)) (now («other_types» .entry))) 0 count) ⌝ }
 {
     let mut i = 0;
     let mut first = 0;
@@ -155,8 +155,8 @@ pub fn same_reflection<'a>(
     requires { ⌜ Sized def (now buffers) (now types) ⌝ }
     requires { ⌜ Sized other (now «other_buffers») (now «other_types») ⌝ }
     ensures { λ r. ⌜ r ≡ sameDef (sameName (now (chunk .entry)) (now (edits .entry))) (sameName (now (chunk .entry)) (now (edits .entry)))
-        (reflectionHeld def (now (bindings .entry)) (now (buffers .entry)) (now (variables .entry)) (now (types .entry)))
-        (reflectionHeld other (now («other_bindings» .entry)) (now («other_buffers» .entry)) (now («other_variables» .entry)) (now («other_types» .entry))) ⌝ }
+        (reflectionInTables def (now (bindings .entry)) (now (buffers .entry)) (now (variables .entry)) (now (types .entry)))
+        (reflectionInTables other (now («other_bindings» .entry)) (now («other_buffers» .entry)) (now («other_variables» .entry)) (now («other_types» .entry))) ⌝ }
 {
     if !same_numbers(def, other) {
         return false;

@@ -6,12 +6,14 @@ use mathlib.Core.List.{List}
 use Prim.Native.Nat.{ℕ}
 use native.Mathlib.Omega.{arith}
 use lib.ListN.{length, replicate}
-use Rattle.words.specs.Splice.{Put, put-length}
+use Rattle.words.specs.Splice.{Put}
+use Rattle.words.proofs.Splice.{put-length}
 use Rattle.reflection.specs.Refusals.{outputTooSmall}
 use Rattle.reflection.specs.Outcome.{Outcome, ok, refused, because}
 use Rattle.reflection.specs.declared.Refusal.{Refusal}
 use Rattle.emit.specs.declared.Written.the-variants.{Wrote, Refused}
-use Rattle.emit.specs.Written.{fitsIn, fitting, writtenOf, outputOf, finished, kept}
+use Rattle.emit.specs.Written.{fitsIn, fitting, writtenOf, outputOf}
+use Rattle.emit.specs.Cursor.{finished, kept}
 
 -- nothing to write: the refusal
 module _ {outcome : Outcome (List ℕ)} {why : Refusal} (refusal : outcome ≡ refused why) (lent : List ℕ) where

@@ -1,4 +1,5 @@
 pub mod Written
+pub mod Cursor
 pub mod Digits
 pub mod Ascii
 pub mod Printable

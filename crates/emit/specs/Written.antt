@@ -1,7 +1,7 @@
 -- A text written to a lent output: document 01, "Refusals" (17; zeros on a refusal; what lies past the written length keeps its old content).
 use mathlib.Core.Bool.{Bool, cond}
 use mathlib.Core.List.{List}
-use Prim.Native.Nat.{ℕ, min, _^_}
+use Prim.Native.Nat.{ℕ, min}
 use lib.Dec.{leb}
 use lib.ListN.{length, replicate}
 use Rattle.words.specs.Splice.{splice}
@@ -29,16 +29,3 @@ writtenOf (refused e) = Refused e
 unfoldable pub outputOf : Outcome (List ℕ) → List ℕ → List ℕ
 outputOf (ok bytes) out = splice out 0 bytes
 outputOf (refused e) out = replicate (length out) 0
-
--- How far a cursor may be where a piece is put: a piece has fewer than 2^63 bytes, so the next cursor is no wrapped sum.
-abbrev pub farthest : ℕ
-farthest = 2 ^ 62
-
--- The answer at the end of writing, by the cursor: the length, where so many bytes fit; else 17.
-unfoldable pub finished : ℕ → ℕ → Written
-finished room at = cond (fitsIn room at) (Wrote at) (Refused (because outputTooSmall))
-
--- An output after an answer: as it was written, or zeros.
-unfoldable pub kept : Written → List ℕ → List ℕ
-kept (Wrote n) out = out
-kept (Refused e) out = replicate (length out) 0

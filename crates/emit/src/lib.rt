@@ -5,7 +5,8 @@ ghost use Prim.Native.Nat.{_≤_};
 ghost use lib.ListN.{length, replicate};
 ghost use Rattle.words.specs.Splice.{Put, splice};
 ghost use Rattle.reflection.specs.Outcome.{refused, because};
-ghost use Rattle.emit.specs.Written.{farthest, writtenOf, outputOf, finished, kept};
+ghost use Rattle.emit.specs.Written.{writtenOf, outputOf};
+ghost use Rattle.emit.specs.Cursor.{farthest, finished, kept};
 use reflection::Refusal;
 
 mod name;

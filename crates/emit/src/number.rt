@@ -4,7 +4,7 @@ ghost use mathlib.Core.List.{[]};
 ghost use Prim.Native.Nat.{_+_, _≤_, _<_};
 ghost use lib.ListN.{length, drop};
 ghost use Rattle.words.specs.Splice.{Put};
-ghost use Rattle.emit.specs.Written.{farthest};
+ghost use Rattle.emit.specs.Cursor.{farthest};
 ghost use Rattle.emit.specs.Digits.{digitsBefore, hexDigit, decimal, hex};
 use crate::put_bytes;
 

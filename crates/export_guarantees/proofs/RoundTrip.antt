@@ -9,10 +9,10 @@ use Rattle.words.specs.Splice.{splice}
 use Rattle.reflection.specs.declared.ResourceDef.{ResourceDef as Header}
 use Rattle.reflection.specs.Outcome.{Outcome, ok}
 use Rattle.reflection.specs.Contents.{Bytes}
-use Rattle.readable.specs.Readable.{held}
+use Rattle.readable.specs.Readable.{tableContents}
 use Rattle.emit.specs.Written.{writtenOf, outputOf}
 use Rattle.writing.specs.Outcome.{write}
-use Rattle.nontrefalcu.specs.Exports.{headerWords, headerAt}
+use Rattle.nontrefalcu.specs.Exports.{headerWordsInTable, headerAt}
 use Rattle.nontrefalcu.specs.Writing.{canonicalInto}
 use Rattle.guarantees.specs.declared.WrittenTwice.{WrittenTwice}
 use Rattle.guarantees.specs.Calls.{Left, reflectionIn, form, answerOf}
@@ -26,8 +26,8 @@ use Rattle.export_guarantees.specs.Noninterference.{RefusedExport}
 use Rattle.export_guarantees.specs.RoundTrip.{LentAgain, SameAgain, RestoredExport, RoundTripOf, refused, restored}
 use Rattle.export_guarantees.proofs.Sides.{readLeft, side-calls, side-words, number-written, length-written, refused-export, ReadSide, read-side}
 
-header-back : (h : Header) → headerAt (headerWords h) ≡ h
-unfolding headerAt headerWords
+header-back : (h : Header) → headerAt (headerWordsInTable h) ≡ h
+unfolding headerAt headerWordsInTable
 header-back h = refl
 
 module _ (s : Side) where
@@ -39,22 +39,22 @@ module _ (s : Side) where
   answers = record { first = answerOf (form (lentBy s)); again = writtenOf (again (size (s .given .scratch)) (size (s .given .out)) (form (lentBy s))) }
 
   module _ (n : ℕ) (found : Header) (bytes : Bytes) (side : ReadSide s n found bytes)
-      (all : held (take n (s .wrote .out)) [] found (readLeft s .found-bindings) (readLeft s .found-buffers) (readLeft s .found-variables) (readLeft s .found-types) ≡ reflectionIn (lentBy s)) where
+      (all : tableContents (take n (s .wrote .out)) [] found (readLeft s .found-bindings) (readLeft s .found-buffers) (readLeft s .found-variables) (readLeft s .found-types) ≡ reflectionIn (lentBy s)) where
     all-restored :
-        held (take n (s .wrote .out)) [] (headerAt (s .found .header)) (s .found .bindings) (s .found .buffers) (s .found .variables) (s .found .types) ≡ reflectionIn (lentBy s)
+        tableContents (take n (s .wrote .out)) [] (headerAt (s .found .header)) (s .found .bindings) (s .found .buffers) (s .found .variables) (s .found .types) ≡ reflectionIn (lentBy s)
     all-restored =
         (λ i.
-        held (take n (s .wrote .out)) [] ((ap headerAt (side .is .header-is) ∙ header-back found) i) (sym (side .same-left) i .found-bindings) (sym (side .same-left) i .found-buffers)
+        tableContents (take n (s .wrote .out)) [] ((ap headerAt (side .is .header-is) ∙ header-back found) i) (sym (side .same-left) i .found-bindings) (sym (side .same-left) i .found-buffers)
         (sym (side .same-left) i .found-variables) (sym (side .same-left) i .found-types))
         ∙ all
 
     second : (l : WordsLent) (after : WordsLeft) → WriteCall l after → LentAgain s n l → SameAgain s n after
     unfolding canonicalInto outputOf
     second l after writing lent =
-        let same-held : held (l .chunk) (l .edits) (headerAt (l .header)) (l .bindings) (l .buffers) (l .variables) (l .types) ≡ reflectionIn (lentBy s) =
-            (λ i. held (lent .chunk i) (lent .edits i) (headerAt (lent .header i)) (lent .bindings i) (lent .buffers i) (lent .variables i) (lent .types i)) ∙ all-restored in
+        let same-held : tableContents (l .chunk) (l .edits) (headerAt (l .header)) (l .bindings) (l .buffers) (l .variables) (l .types) ≡ reflectionIn (lentBy s) =
+        (λ i. tableContents (lent .chunk i) (lent .edits i) (headerAt (lent .header i)) (lent .bindings i) (lent .buffers i) (lent .variables i) (lent .types i)) ∙ all-restored in
         let formed : canonicalInto (l .chunk) (l .edits) (l .header) (l .bindings) (l .buffers) (l .variables) (l .types) (l .scratch) (l .out) ≡ ok bytes =
-            (λ i. write (lent .scratch i) (lent .out i) (same-held i)) ∙ side .formed in
+        (λ i. write (lent .scratch i) (lent .out i) (same-held i)) ∙ side .formed in
         let fits = written-form (size (s .given .scratch)) (size (s .given .out)) (reflectionIn (lentBy s)) bytes (side .formed) .fits in
         let out : after .out ≡ splice (l .out) 0 bytes = writing .out ∙ ap (λ (o : Outcome Bytes). outputOf o (l .out)) formed in
         let first : take (size bytes) (s .wrote .out) ≡ bytes = written-bytes (lentBy s) (readLeft s) (answerOf (form (lentBy s))) (side-calls s) bytes (side .formed) in

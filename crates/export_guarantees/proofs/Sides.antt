@@ -17,8 +17,8 @@ use Rattle.reading.specs.Step.{roomOf, fullRoom}
 use Rattle.reading.specs.Read.{read}
 use Rattle.reader.specs.declared.Parsed.the-variants.{Read}
 use Rattle.reader.specs.Parsed.{parsedOf, readInto}
-use Rattle.round_trip.specs.RoundTrip.{Words}
-use Rattle.nontrefalcu.specs.Exports.{numberOf, resultTable, headerWords, headerAt, headerTable, oneWord, lengthTable}
+use Rattle.round_trip.specs.RoundTrip.{EachIsWord}
+use Rattle.nontrefalcu.specs.Exports.{numberOf, resultTable, headerWordsInTable, headerAt, headerTable, oneWord, lengthTable}
 use Rattle.nontrefalcu.specs.Writing.{canonicalInto}
 use Rattle.guarantees.specs.declared.WrittenAndRead.the-variants.{Wrote, Refused}
 use Rattle.guarantees.specs.Calls.{Lent, Left, left, form, readBack, answerOf, WroteAndRead}
@@ -46,7 +46,7 @@ side-calls s = record {
 }
 
 pub side-words : (s : Side) → LentWords (lentBy s)
-unfolding headerAt Words
+unfolding headerAt EachIsWord
 side-words s = record {
   header = (s .words .header 0, (s .words .header 1, (s .words .header 5, (s .words .header 6, (s .words .header 7, tt)))));
   bindings = s .words .bindings;
@@ -87,8 +87,8 @@ whole-room : (t : WordTables) → WholeRoom t → roomOf (size (t .bindings)) (s
 unfolding roomOf
 whole-room t room = λ i. roomOf (room .bindings i) (room .buffers i) (room .variables i) (room .types i)
 
-header-whole : (h : Header) → splice (replicate 12 0) 0 (headerWords h) ≡ headerWords h
-unfolding splice headerWords
+header-whole : (h : Header) → splice (replicate 12 0) 0 (headerWordsInTable h) ≡ headerWordsInTable h
+unfolding splice headerWordsInTable
 header-whole h = refl
 
 -- A side that was written and read.
@@ -111,12 +111,12 @@ read-side s n found is = go (form (lentBy s)) refl is
         let length-is : s .wrote .length ≡ n ∷ [] = length-written (s .given) (s .wrote) (s .writing) bytes formed (s .one-length) ∙ ap (λ (k : ℕ). k ∷ []) long in
         let parse = s .reading number in
         let lent-chunk : take (getD (s .wrote .length) 0 0) (s .wrote .out) ≡ bytes =
-            ap (λ (k : List ℕ). take (getD k 0 0) (s .wrote .out)) length-is
-            ∙ ap (λ (k : ℕ). take k (s .wrote .out)) (sym long)
-            ∙ written-bytes (lentBy s) (readLeft s) (answerOf (form (lentBy s))) (side-calls s) bytes formed in
+        ap (λ (k : List ℕ). take (getD k 0 0) (s .wrote .out)) length-is
+        ∙ ap (λ (k : ℕ). take k (s .wrote .out)) (sym long)
+        ∙ written-bytes (lentBy s) (readLeft s) (answerOf (form (lentBy s))) (side-calls s) bytes formed in
         let before = s .found-before in
         let reads-as : readInto (take (getD (s .wrote .length) 0 0) (s .wrote .out)) (before .bindings) (before .buffers) (before .variables) (before .types) ≡ ok d =
-            (λ i. read (whole-room before (s .room) i) (lent-chunk i)) ∙ reads in
+        (λ i. read (whole-room before (s .room) i) (lent-chunk i)) ∙ reads in
         let back : readBack (form (lentBy s)) ≡ ok d = ap readBack formed ∙ reads in
         let as-back = reads-as ∙ sym back in
         let b = parse .bindings ∙ (λ i. table bindingRows (as-back i) (s .room .bindings i)) in
@@ -134,7 +134,7 @@ read-side s n found is = go (form (lentBy s)) refl is
                 parse .header
                 ∙ (λ i. headerTable (reads-as i) (s .room .header i))
                 ∙ header-whole (headerOf d)
-                ∙ ap headerWords header;
+                ∙ ap headerWordsInTable header;
           };
           same-left = sym (λ i. left (s .wrote .scratch) (s .wrote .out) (b i) (f i) (v i) (t i));
         }

@@ -13,7 +13,7 @@ use Prim.Native.Nat.{ℕ}
 use lib.ListN.{length as size, replicate}
 use Rattle.reflection.specs.declared.Refusal.{Refusal}
 use Rattle.reflection.specs.declared.ResourceDef.{ResourceDef as Header}
-use Rattle.nontrefalcu.specs.Exports.{headerWords}
+use Rattle.nontrefalcu.specs.Exports.{headerWordsInTable}
 use Rattle.guarantees.specs.Noninterference.{RefusedSide, Alike}
 use Rattle.export_guarantees.specs.Calls.{Side, lentBy, leftBy}
 
@@ -28,7 +28,7 @@ pub record WrittenExport (s : Side) (n : ℕ) (found : Header) : Type 0 where
   pub answer : s .wrote .number ≡ 0
   pub length-is : s .wrote .length ≡ n ∷ []
   pub read : s .read-number ≡ 0
-  pub header-is : s .found .header ≡ headerWords found
+  pub header-is : s .found .header ≡ headerWordsInTable found
 
 pub data SameNumbers (a b : Side) : Type 0 where
   both-refused : (e : Refusal) → RefusedExport a e → RefusedExport b e → SameNumbers a b

@@ -5,13 +5,13 @@
 -- answers 0 and the length n, what was read holds every field, name and default that the lent tables hold, and any call of the writer on what was read, with
 -- as much scratch and output, answers 0 and n again and writes the same n bytes.
 --
--- Definitions that this rests on: `held` (crates/readable/specs/Readable.antt) and Calls.antt. proofs/RoundTrip.antt proves it.
+-- Definitions that this rests on: `tableContents` (crates/readable/specs/Readable.antt) and Calls.antt. proofs/RoundTrip.antt proves it.
 use mathlib.Core.Path.{_≡_}
 use mathlib.Core.List.{[], _∷_}
 use Prim.Native.Nat.{ℕ}
 use lib.ListN.{length as size, take}
 use Rattle.reflection.specs.declared.Refusal.{Refusal}
-use Rattle.readable.specs.Readable.{held}
+use Rattle.readable.specs.Readable.{tableContents}
 use Rattle.nontrefalcu.specs.Exports.{headerAt}
 use Rattle.guarantees.specs.Calls.{reflectionIn}
 use Rattle.export_guarantees.specs.Calls.{WordsLent, WordsLeft, WriteCall, Side, lentBy}
@@ -42,7 +42,7 @@ pub record RestoredExport (s : Side) (n : ℕ) : Type 0 where
   pub length-is : s .wrote .length ≡ n ∷ []
   pub read : s .read-number ≡ 0
   pub restored :
-      held (take n (s .wrote .out)) [] (headerAt (s .found .header)) (s .found .bindings) (s .found .buffers) (s .found .variables) (s .found .types)
+      tableContents (take n (s .wrote .out)) [] (headerAt (s .found .header)) (s .found .bindings) (s .found .buffers) (s .found .variables) (s .found .types)
       ≡ reflectionIn (lentBy s)
   pub again : (l : WordsLent) (after : WordsLeft) → WriteCall l after → LentAgain s n l → SameAgain s n after
 

@@ -9,7 +9,8 @@ use native.Mathlib.Omega.{arith}
 use lib.Dec.{leb}
 use lib.ListN.{length, getD, take, drop, replicate}
 use lib.Seq.{getD-take}
-use Rattle.words.specs.Splice.{splice, length-splice}
+use Rattle.words.specs.Splice.{splice}
+use Rattle.words.proofs.Splice.{length-splice}
 use Rattle.reflection.specs.declared.Text.{Text}
 use Rattle.reflection.specs.declared.Refusal.{Refusal}
 use Rattle.reflection.specs.declared.ResourceDef.{ResourceDef as Header}

@@ -25,7 +25,7 @@ use Rattle.reading.specs.Step.{fullRoom}
 use Rattle.reading.specs.Read.{read}
 use Rattle.reader.specs.declared.Parsed.the-variants.{Read, Refused as NotRead}
 use Rattle.reader.specs.Parsed.{parsedOf}
-use Rattle.readable.specs.Readable.{held, readableContents}
+use Rattle.readable.specs.Readable.{tableContents, readableContents}
 use Rattle.readable.proofs.Reading.{AtMostFull, read-held}
 use Rattle.emit.specs.declared.Written.the-variants.{Wrote as WroteAgain, Refused as RefusedAgain}
 use Rattle.emit.specs.Written.{fitting, writtenOf, outputOf}
@@ -75,11 +75,11 @@ full = record { bindings = omega arith; buffers = omega arith; variables = omega
 -- What reading left in tables of the whole room is held there.
 module _ (l : Lent) (after : Left) (answer : WrittenAndRead) (calls : WroteAndRead l after answer) where
   pub found-held : (bytes : Bytes) → ByteList bytes → (found : ResourceDef Text Text) → read fullRoom bytes ≡ ok found → readBack (form l) ≡ ok found
-      → held bytes [] (headerOf found) (after .found-bindings) (after .found-buffers) (after .found-variables) (after .found-types) ≡ some (contents bytes [] found)
+      → tableContents bytes [] (headerOf found) (after .found-bindings) (after .found-buffers) (after .found-variables) (after .found-types) ≡ some (contents bytes [] found)
   unfolding table
   found-held bytes are-bytes found reads is =
       (λ i.
-      held bytes [] (headerOf found)
+      tableContents bytes [] (headerOf found)
       ((calls .bindings-are ∙ ap (λ (o : Outcome (ResourceDef Text Text)). table bindingRows o bindingTable) is) i)
       ((calls .buffers-are ∙ ap (λ (o : Outcome (ResourceDef Text Text)). table bufferRows o bufferTable) is) i)
       ((calls .variables-are ∙ ap (λ (o : Outcome (ResourceDef Text Text)). table variableRows o variableTable) is) i)
@@ -110,12 +110,12 @@ module _ (l : Lent) (after : Left) (answer : WrittenAndRead) (calls : WroteAndRe
 
   pub again-written : (n : ℕ) (h : Header) → answer ≡ Wrote n (Read h) → ByteList (after .out)
       → again scratch room (form l)
-      ≡ write scratch room (held (part (after .out) 0 n) [] h (after .found-bindings) (after .found-buffers) (after .found-variables) (after .found-types))
+      ≡ write scratch room (tableContents (part (after .out) 0 n) [] h (after .found-bindings) (after .found-buffers) (after .found-variables) (after .found-types))
   unfolding again answerOf parsedOf readBack outputOf
   again-written n h is are-bytes = go (form l) refl (sym is ∙ calls .answer-is)
     where
       second : Bytes → Header → Outcome Bytes
-      second chunk header = write scratch room (held chunk [] header (after .found-bindings) (after .found-buffers) (after .found-variables) (after .found-types))
+      second chunk header = write scratch room (tableContents chunk [] header (after .found-bindings) (after .found-buffers) (after .found-variables) (after .found-types))
 
       by-read : (bytes : Bytes) → form l ≡ ok bytes → (o : Outcome (ResourceDef Text Text)) → read fullRoom bytes ≡ o → Wrote n (Read h) ≡ Wrote (length bytes) (parsedOf o)
           → writtenAgain scratch room bytes o ≡ second (part (after .out) 0 n) h
@@ -138,14 +138,14 @@ module _ (l : Lent) (after : Left) (answer : WrittenAndRead) (calls : WroteAndRe
 pub second-call : (l : Lent) (after : Left) (first : WrittenAndRead) → WroteAndRead l after first → ByteList (after .out) → (n : ℕ) (h : Header) → first ≡ Wrote n (Read h)
     → (room : ℕ) {chunk edits : Bytes} → chunk ≡ part (after .out) 0 n → edits ≡ part (after .out) 0 0
     → again (length (l .scratch)) room (form l)
-    ≡ write (length (after .scratch)) room (held chunk edits h (after .found-bindings) (after .found-buffers) (after .found-variables) (after .found-types))
+    ≡ write (length (after .scratch)) room (tableContents chunk edits h (after .found-bindings) (after .found-buffers) (after .found-variables) (after .found-types))
 second-call l after first calls are-bytes n h is room chunk-is edits-is =
     let scratch-is : length (after .scratch) ≡ length (l .scratch) = ap length (calls .scratch-is) ∙ length-replicate (length (l .scratch)) 0 in
     again-written l after first calls (length (l .scratch)) room n h is are-bytes
     ∙ sym
     (λ i.
     write (scratch-is i) room
-    (held (chunk-is i) ((edits-is ∙ empty-part (after .out)) i) h (after .found-bindings) (after .found-buffers) (after .found-variables) (after .found-types)))
+    (tableContents (chunk-is i) ((edits-is ∙ empty-part (after .out)) i) h (after .found-bindings) (after .found-buffers) (after .found-variables) (after .found-types)))
 
 -- The scratch that the second call zeroes is as long as the first call's.
 pub rescratched : (l : Lent) (after : Left) (first : WrittenAndRead) → WroteAndRead l after first → (scratch : List ℕ) → scratch ≡ replicate (length (after .scratch)) 0
@@ -211,9 +211,9 @@ module _
     taken : take (length (canonical r)) (after .out) ≡ canonical r
     taken = written-bytes l after (answer .first) calls (canonical r) is
 
-    held-again : held (take (length (canonical r)) (after .out)) [] (headerOf (back .read-back)) (after .found-bindings) (after .found-buffers) (after .found-variables) (after .found-types) ≡ reflectionIn l
+    held-again : tableContents (take (length (canonical r)) (after .out)) [] (headerOf (back .read-back)) (after .found-bindings) (after .found-buffers) (after .found-variables) (after .found-types) ≡ reflectionIn l
     held-again =
-        ap (λ (chunk : Bytes). held chunk [] (headerOf (back .read-back)) (after .found-bindings) (after .found-buffers) (after .found-variables) (after .found-types)) taken
+        ap (λ (chunk : Bytes). tableContents chunk [] (headerOf (back .read-back)) (after .found-bindings) (after .found-buffers) (after .found-variables) (after .found-types)) taken
         ∙ found-held l after (answer .first) calls (canonical r) (subst ByteList taken (take-bytes (length (canonical r)) (after .out) out-bytes)) (back .read-back) (back .reads)
         (read-outcome l after (answer .first) calls (canonical r) is (back .read-back) (back .reads))
         ∙ ap some (back .restored)
@@ -233,10 +233,13 @@ module _
     same-again = record {
       with-room = λ room.
           (let wrote-twice = twice-is ∙ fits (length second) (canonical r) short room in
-          let out = out-again ∙ ap (λ (o : Outcome Bytes). outputOf o second) wrote-twice in
-          (answer-again ∙ ap writtenOf wrote-twice,
-          (ap (take (length (canonical r))) out ∙ written-start (canonical r) second room ∙ sym taken,
-          ap (drop (length (canonical r))) out ∙ written-rest (canonical r) second room)));
+          let out = out-again ∙ ap (λ (o : Outcome Bytes). outputOf o second) wrote-twice in (
+            answer-again ∙ ap writtenOf wrote-twice,
+            (
+              ap (take (length (canonical r))) out ∙ written-start (canonical r) second room ∙ sym taken,
+              ap (drop (length (canonical r))) out ∙ written-rest (canonical r) second room,
+            ),
+          ));
       without-room = λ less.
           (let refused-twice = twice-is ∙ too-long (length second) (canonical r) short less in
           (answer-again ∙ ap writtenOf refused-twice, out-again ∙ ap (λ (o : Outcome Bytes). outputOf o second) refused-twice));

@@ -15,7 +15,7 @@ use Rattle.reflection.specs.Contents.{Bytes}
 use Rattle.reading.specs.Step.{fullRoom}
 use Rattle.reading.specs.Read.{read}
 use Rattle.reader.specs.Parsed.{parsedOf}
-use Rattle.readable.specs.Readable.{held}
+use Rattle.readable.specs.Readable.{tableContents}
 use Rattle.emit.specs.Written.{outputOf}
 use Rattle.writing.specs.Outcome.{write}
 use Rattle.guarantees.specs.declared.WrittenAndRead.{WrittenAndRead}
@@ -52,7 +52,7 @@ left scratch out bindings buffers variables types =
 
 -- The reflection that the lent header, tables and buffers hold; `none` where they hold none.
 abbrev pub reflectionIn : Lent → Option (ResourceDef Bytes Bytes)
-reflectionIn l = held (l .chunk) (l .edits) (l .header) (l .bindings) (l .buffers) (l .variables) (l .types)
+reflectionIn l = tableContents (l .chunk) (l .edits) (l .header) (l .bindings) (l .buffers) (l .variables) (l .types)
 
 -- What the writer comes to: the canonical form, or the refusal.
 abbrev pub form : Lent → Outcome Bytes

@@ -5,7 +5,7 @@
 -- outputs; or n bytes are written and read, and then what was read holds every field, name and default that the lent tables hold; and it is written again as
 -- n bytes, the same ones, where the second output has room for n, else refused as too long for that output.
 --
--- Definitions that this rests on: `held`, what tables hold, every field with names and defaults by their bytes (crates/readable/specs/Readable.antt);
+-- Definitions that this rests on: `tableContents`, what tables hold, every field with names and defaults by their bytes (crates/readable/specs/Readable.antt);
 -- `write`, which says when a reflection is refused (crates/writing/specs/Outcome.antt); what was lent and what is left: Calls.antt. proofs/RoundTrip.antt
 -- proves it.
 use mathlib.Core.Path.{_≡_}
@@ -23,7 +23,7 @@ use Rattle.reflection.specs.Contents.{Bytes, contents}
 use Rattle.reading.specs.Step.{fullRoom}
 use Rattle.reading.specs.Read.{read}
 use Rattle.reader.specs.declared.Parsed.the-variants.{Read}
-use Rattle.readable.specs.Readable.{held}
+use Rattle.readable.specs.Readable.{tableContents}
 use Rattle.emit.specs.declared.Written.the-variants.{Wrote as WroteAgain, Refused as RefusedAgain}
 use Rattle.emit.specs.Written.{writtenOf, outputOf}
 use Rattle.writing.specs.Outcome.{write}
@@ -52,7 +52,7 @@ pub data Restored (l : Lent) (after : Left) (second second-after : Bytes) (answe
       → second-after ≡ replicate (length second) 0 → Restored l after second second-after answer
   restored :
       (n : ℕ) (found : Header) → answer .first ≡ Wrote n (Read found)
-      → held (take n (after .out)) [] found (after .found-bindings) (after .found-buffers) (after .found-variables) (after .found-types) ≡ reflectionIn l
+      → tableContents (take n (after .out)) [] found (after .found-bindings) (after .found-buffers) (after .found-variables) (after .found-types) ≡ reflectionIn l
       → SameAgain n (after .out) second second-after answer → Restored l after second second-after answer
 
 -- What `write_read_write` answers and leaves: of the first writing what `write_and_read` does, of the second the answer and the output; and demand 2.

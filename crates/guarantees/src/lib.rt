@@ -47,7 +47,7 @@ pub fn write_and_read<'a>(
 ) -> WrittenAndRead
     ensures { λ r. ⌜ WroteAndRead
         (lent (now (chunk .entry)) (now (edits .entry)) def (now (bindings .entry)) (now (buffers .entry)) (now (variables .entry)) (now (types .entry))
-            (now (scratch .entry)) (now (out .entry)))
+        (now (scratch .entry)) (now (out .entry)))
         (left (now (scratch .exit)) (now (out .exit)) (now («found_bindings» .exit)) (now («found_buffers» .exit)) (now («found_variables» .exit)) (now («found_types» .exit)))
         r ⌝ }
 {
@@ -114,13 +114,13 @@ pub fn write_pair<'a, 'b>(
 ) -> WrittenPair
     ensures { λ r. ⌜ Noninterference
         (lent (now («chunk_a» .entry)) (now («edits_a» .entry)) «def_a» (now («bindings_a» .entry)) (now («buffers_a» .entry)) (now («variables_a» .entry)) (now («types_a» .entry))
-            (now («scratch_a» .entry)) (now («out_a» .entry)))
+        (now («scratch_a» .entry)) (now («out_a» .entry)))
         (lent (now («chunk_b» .entry)) (now («edits_b» .entry)) «def_b» (now («bindings_b» .entry)) (now («buffers_b» .entry)) (now («variables_b» .entry)) (now («types_b» .entry))
-            (now («scratch_b» .entry)) (now («out_b» .entry)))
+        (now («scratch_b» .entry)) (now («out_b» .entry)))
         (left (now («scratch_a» .exit)) (now («out_a» .exit))
-            (now («found_bindings_a» .exit)) (now («found_buffers_a» .exit)) (now («found_variables_a» .exit)) (now («found_types_a» .exit)))
+        (now («found_bindings_a» .exit)) (now («found_buffers_a» .exit)) (now («found_variables_a» .exit)) (now («found_types_a» .exit)))
         (left (now («scratch_b» .exit)) (now («out_b» .exit))
-            (now («found_bindings_b» .exit)) (now («found_buffers_b» .exit)) (now («found_variables_b» .exit)) (now («found_types_b» .exit)))
+        (now («found_bindings_b» .exit)) (now («found_buffers_b» .exit)) (now («found_variables_b» .exit)) (now («found_types_b» .exit)))
         r ⌝ }
 {
     let a = write_and_read(
@@ -175,7 +175,7 @@ pub fn write_read_write<'a>(
 ) -> WrittenTwice
     ensures { λ r. ⌜ RoundTrip
         (lent (now (chunk .entry)) (now (edits .entry)) def (now (bindings .entry)) (now (buffers .entry)) (now (variables .entry)) (now (types .entry))
-            (now (scratch .entry)) (now (out .entry)))
+        (now (scratch .entry)) (now (out .entry)))
         (left (now (scratch .exit)) (now (out .exit)) (now («found_bindings» .exit)) (now («found_buffers» .exit)) (now («found_variables» .exit)) (now («found_types» .exit)))
         (now (second .entry)) (now (second .exit)) r ⌝ }
 {

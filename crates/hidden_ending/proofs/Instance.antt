@@ -38,7 +38,7 @@ use Rattle.hidden_ending.proofs.HiddenEnding.{hidden-ending}
 
 -- A name for all that has to compute.
 unfoldable computing : Unit {0}
-unfolding Words.wordBytes TextSame.sameBytes Utf8.run Utf8.wellFormed Strings.withoutNul Reflection.memberCount Reflection.mapType Reflection.mapBinding Reflection.mapVariable Reflection.mapBuffer Reflection.mapDef Nodes.nodesOf Tables.allVariables Contents.typeNames Contents.variableNames Contents.outerNames Contents.innerNames Contents.defaultsOf Chunks.float Readable.every Readable.nameReadable Readable.defaultReadable Readable.zeroUnless Rd11.rd11Allowed Readable.versionReadable Readable.bindingReadable Readable.numbersReadable Readable.typeReadable Readable.variableReadable Readable.nodeCount Readable.roomKept Readable.readableContents Written.fitting Step._>>=_ Step.return Step.append Step.remember Step.paddingAt Step.pad Step.wordCells Step.ahead Step.find Step.once Step.rememberIf Step.unlessEmpty Step.below Step.cellsOf Records.halves Records.typeWords Records.variableWords Records.bufferWords Records.bindingWords Records.rd11Words Records.headerWords Records.rows Same.numbersOf Same.sameType Layout.zip Layout.nameCells Layout.placeOuterName Layout.placeInnerName Layout.placeDefault Layout.writeType Layout.placeType Layout.placeVariable Layout.placeVariables Layout.placeSection Layout.placeSections Layout.placeOuterNames Layout.placeBufferParts Layout.placeBuffers Layout.placeBody Layout.placeChunk Layout.layout Canonical.bytesOracle Canonical.fill Canonical.canonical Outcome.canonicalOr16 Outcome.write Chunks.nameless Chunks.floatVariable Chunks.floatsAB RoundTrip.typeNumbers RoundTrip.variableNumbers RoundTrip.bindingNumbers RoundTrip.Words RoundTrip.AllWords RoundTrip.bufferNumbers RoundTrip.BuffersWords HiddenEnding.defaultNumber HiddenEnding.withoutDefaults
+unfolding Words.wordBytes TextSame.sameBytes Utf8.run Utf8.wellFormed Strings.withoutNul Reflection.memberCount Reflection.mapType Reflection.mapBinding Reflection.mapVariable Reflection.mapBuffer Reflection.mapDef Nodes.nodesOf Tables.allVariables Contents.typeNames Contents.variableNames Contents.outerNames Contents.innerNames Contents.defaultsOf Chunks.float Readable.every Readable.nameReadable Readable.defaultReadable Readable.zeroUnless Rd11.rd11Allowed Readable.versionReadable Readable.bindingReadable Readable.numbersReadable Readable.typeReadable Readable.variableReadable Readable.nodeCount Readable.roomKept Readable.readableContents Written.fitting Step._>>=_ Step.return Step.append Step.remember Step.paddingAt Step.pad Step.wordCells Step.ahead Step.find Step.once Step.rememberIf Step.unlessEmpty Step.below Step.cellsOf Records.halves Records.typeWordsInChunk Records.variableWordsInChunk Records.bufferWordsInChunk Records.bindingWordsInChunk Records.rd11Words Records.headerWordsInChunk Records.rows Same.numbersOf Same.sameType Layout.zip Layout.nameCells Layout.placeOuterName Layout.placeInnerName Layout.placeDefault Layout.writeType Layout.placeType Layout.placeVariable Layout.placeVariables Layout.placeSection Layout.placeSections Layout.placeOuterNames Layout.placeBufferParts Layout.placeBuffers Layout.placeBody Layout.placeChunk Layout.layout Canonical.bytesOracle Canonical.fill Canonical.canonical Outcome.canonicalOr16 Outcome.write Chunks.nameless Chunks.floatVariable Chunks.floatsAB RoundTrip.typeNumbers RoundTrip.variableNumbers RoundTrip.bindingNumbers RoundTrip.EachIsWord RoundTrip.AllWords RoundTrip.bufferNumbers RoundTrip.BuffersWords HiddenEnding.defaultNumber HiddenEnding.withoutDefaults
 computing = tt
 
 abbrev one : ResourceDef Bytes Bytes

@@ -14,7 +14,8 @@ use Rattle.reflection.specs.Contents.{Bytes, defaultsOf}
 use Rattle.writing.specs.Step.{Cell, byte, nameByte, defaultByte, Oracle}
 use Rattle.writing.specs.Records.{BodyOffsets, VariableOffsets}
 use Rattle.writing.specs.Layout.{layout}
-use Rattle.writing.specs.Canonical.{bytesOracle, through, fillThrough}
+use Rattle.writing.specs.Canonical.{bytesOracle}
+use Rattle.writing.specs.Through.{through, fillThrough}
 use Rattle.writing.proofs.NaturalSteps.{mapPlaced}
 use Rattle.writing.proofs.Natural.{layout-natural}
 use Rattle.round_trip.specs.RoundTrip.{placesOf, sectionOffsets, defaultPlaces}

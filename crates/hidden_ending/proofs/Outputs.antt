@@ -10,7 +10,8 @@ use borrow.Author.Tests.{leb-true}
 use lib.Dec.{leb}
 use lib.ListN.{length, take, drop, replicate}
 use lib.Seq.{take-append-seam}
-use Rattle.words.specs.Splice.{splice, splice-eq}
+use Rattle.words.specs.Splice.{splice}
+use Rattle.words.proofs.Splice.{splice-eq}
 use Rattle.reflection.specs.Limits.{chunkLimit}
 use Rattle.reflection.specs.Refusals.{noRoom, outputTooSmall}
 use Rattle.reflection.specs.Outcome.{Outcome, ok, refused, because}

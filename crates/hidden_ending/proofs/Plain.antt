@@ -7,8 +7,8 @@ use lib.Dec.{eqb}
 use lib.ListN.{replicate}
 use Rattle.words.specs.Words.{wordBytes}
 use Rattle.reflection.specs.Reflection.{TypeNumbers, TypeDesc, typeDesc, Members, noMember, member, memberCount}
-use Rattle.writing.specs.Step.{Cell, byte, nameByte, defaultByte, Oracle, Pools, Step, _>>=_, return, append, remember, rememberIf, pad, paddingAt, wordCells, ahead, found, once, unlessEmpty, below, goDown, addType, cellsOf}
-use Rattle.writing.specs.Records.{typeWords}
+use Rattle.writing.specs.Step.{Cell, byte, nameByte, defaultByte, Oracle, Pools, WriteStep, _>>=_, return, append, remember, rememberIf, pad, paddingAt, wordCells, ahead, found, once, unlessEmpty, below, goDown, addType, cellsOf}
+use Rattle.writing.specs.Records.{typeWordsInChunk}
 use Rattle.writing.specs.Layout.{nameCells, placeOuterName, placeInnerName, writeType, placeType, placeMembers, placeOuterNames}
 
 -- A cell that holds a byte of a default.
@@ -45,11 +45,11 @@ plain-words N D [] = tt
 plain-words N D (w ∷ ws) = plain-append (map byte (wordBytes w)) (wordCells ws) (plain-bytes N D (wordBytes w)) (plain-words N D ws)
 
 -- A step whose cells are plain.
-pub record PlainStep {N D A : Type 0} (m : Step N D A) : Type 0 where
+pub record PlainStep {N D A : Type 0} (m : WriteStep N D A) : Type 0 where
   pub plain : (at : ℕ) (ps : Pools N D) → Plain (m at ps .cells)
 
 module _ {N D : Type 0} where
-  plain-bind : {A B : Type 0} {m : Step N D A} {k : A → Step N D B} → PlainStep m → ((a : A) → PlainStep (k a)) → PlainStep (m >>= k)
+  plain-bind : {A B : Type 0} {m : WriteStep N D A} {k : A → WriteStep N D B} → PlainStep m → ((a : A) → PlainStep (k a)) → PlainStep (m >>= k)
   unfolding _>>=_
   plain-bind {A} {B} {m} {k} h e = record { plain = λ at ps. plain-append (m at ps .cells) _ (h .plain at ps) (e (m at ps .result) .plain _ _) }
 
@@ -74,15 +74,15 @@ module _ {N D : Type 0} where
   unfolding pad
   plain-pad = record { plain = λ at ps. plain-padding N D (paddingAt at) 0xab }
 
-  pub plain-ahead : {A : Type 0} (n : ℕ) (words : A → List ℕ) {m : Step N D A} → PlainStep m → PlainStep (ahead n words m)
+  pub plain-ahead : {A : Type 0} (n : ℕ) (words : A → List ℕ) {m : WriteStep N D A} → PlainStep m → PlainStep (ahead n words m)
   unfolding ahead
   plain-ahead n words {m} h = record { plain = λ at ps. plain-append (wordCells (words (m (at + 4 * n) ps .result))) _ (plain-words N D _) (h .plain (at + 4 * n) ps) }
 
-  plain-below : {A : Type 0} {m : Step N D A} → PlainStep m → PlainStep (below m)
+  plain-below : {A : Type 0} {m : WriteStep N D A} → PlainStep m → PlainStep (below m)
   unfolding below
   plain-below h = record { plain = λ at ps. h .plain at (goDown ps) }
 
-  plain-once : (b : Bool) (look : Pools N D → Option ℕ) {m : Step N D ℕ} → PlainStep m → PlainStep (once b look m)
+  plain-once : (b : Bool) (look : Pools N D → Option ℕ) {m : WriteStep N D ℕ} → PlainStep m → PlainStep (once b look m)
   unfolding once
   plain-once true look {m} h = record { plain = λ at ps. go (look ps) at ps }
     where
@@ -91,7 +91,7 @@ module _ {N D : Type 0} where
       go (some o) at ps = tt
   plain-once false look h = record { plain = h .plain }
 
-  plain-unless-empty : (n : ℕ) {m : Step N D ℕ} → PlainStep m → PlainStep (unlessEmpty n m)
+  plain-unless-empty : (n : ℕ) {m : WriteStep N D ℕ} → PlainStep m → PlainStep (unlessEmpty n m)
   unfolding unlessEmpty
   plain-unless-empty zero h = plain-return 0
   plain-unless-empty (suc n) h = h
@@ -114,12 +114,12 @@ module _ {N D : Type 0} (O : Oracle N D) where
   plain-outer-names [] = plain-return []
   plain-outer-names (n ∷ ns) = plain-bind (plain-outer-name n) λ o. plain-bind (plain-outer-names ns) λ os. plain-return (o ∷ os)
 
-  plain-write-type : (sm5 : Bool) (k : TypeNumbers) (n : N) (count : ℕ) {ms : Step N D (List ℕ)} → PlainStep ms → PlainStep (writeType O sm5 k n count ms)
+  plain-write-type : (sm5 : Bool) (k : TypeNumbers) (n : N) (count : ℕ) {ms : WriteStep N D (List ℕ)} → PlainStep ms → PlainStep (writeType O sm5 k n count ms)
   unfolding writeType
   plain-write-type sm5 k n count h =
       plain-bind (plain-unless-empty _ (plain-inner-name n)) λ name. plain-bind h λ records.
       plain-bind (plain-unless-empty count (plain-bind plain-pad λ _. plain-append-step (wordCells records) (plain-words N D records))) λ members. plain-bind plain-pad λ _.
-      plain-append-step _ (plain-words N D (typeWords sm5 k count members name))
+      plain-append-step _ (plain-words N D (typeWordsInChunk sm5 k count members name))
 
   mutual
     unfolding placeType

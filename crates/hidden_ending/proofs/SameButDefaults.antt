@@ -13,7 +13,8 @@ use Rattle.readable.specs.Readable.{readableContents}
 use Rattle.writing.specs.Step.{Oracle, Placed}
 use Rattle.writing.specs.Records.{BodyOffsets}
 use Rattle.writing.specs.Layout.{layout}
-use Rattle.writing.specs.Canonical.{bytesOracle, through, fillThrough, canonical}
+use Rattle.writing.specs.Canonical.{bytesOracle, canonical}
+use Rattle.writing.specs.Through.{through, fillThrough}
 use Rattle.writing.proofs.Natural.{layout-natural, canonical-through}
 use Rattle.round_trip.specs.RoundTrip.{defaultPlaces, NumbersAreWords}
 use Rattle.hidden_ending.specs.HiddenEnding.{defaultNumber, SameButDefaults, Covered}

@@ -15,8 +15,8 @@ use Rattle.reflection.specs.Reflection.{CBufferVariable, CBufferDef, ResourceDe
 use Rattle.reflection.specs.Texts.{inChunk}
 use Rattle.reflection.specs.Tables.{allVariables}
 use Rattle.reflection.specs.Contents.{defaultsOf}
-use Rattle.writing.specs.Step.{Cell, defaultByte, Oracle, Pools, pools, Step, _>>=_, return, append, remember, pad, wordCells, ahead, found, once, unlessEmpty, addDefault, cellsOf}
-use Rattle.writing.specs.Records.{VariableOffsets, variableWords, variableSize, Section, bufferWords, bufferSize, bindingWords, bindingSize, headerWords, headerSize, BodyOffsets, rows}
+use Rattle.writing.specs.Step.{Cell, defaultByte, Oracle, Pools, pools, WriteStep, _>>=_, return, append, remember, pad, wordCells, ahead, found, once, unlessEmpty, addDefault, cellsOf}
+use Rattle.writing.specs.Records.{VariableOffsets, variableWordsInChunk, variableSize, Section, bufferWordsInChunk, bufferSize, bindingWordsInChunk, bindingSize, headerWordsInChunk, headerWordCount, BodyOffsets, rows}
 use Rattle.writing.specs.Layout.{zip, placeInnerName, placeDefault, placeType, placeVariable, placeVariables, placeSection, placeSections, placeOuterNames, placeBufferParts, placeBuffers, placeBody, placeChunk, layout}
 use Rattle.writing.proofs.Sizes.{word-cells-length, rows-length, variable-words-length, buffer-words-length, header-words-length, variables-length, outer-names-length, section-length, buffer-parts-length}
 use Rattle.round_trip.specs.RoundTrip.{placesOf, sectionOffsets, defaultPlaces}
@@ -62,12 +62,12 @@ cells-within-place P o k zero at cell low high = tt
 cells-within-place P o k (suc n) at cell low high = ((λ d. inl (low, omega arith)), cells-within-place P o k n (suc at) (λ j. cell (suc j)) (omega arith) (omega arith))
 
 -- A step before which the places P were known, and after which `places result` are: its cells of defaults lie in these, and no place is lost.
-record InPlaces {N D A : Type 0} (m : Step N D A) (P : List Text) (places : A → List Text) : Type 0 where
+record InPlaces {N D A : Type 0} (m : WriteStep N D A) (P : List Text) (places : A → List Text) : Type 0 where
   within : (at : ℕ) (ps : Pools N D) → Within at (m at ps .cells) (places (m at ps .result))
   kept : (at : ℕ) (ps : Pools N D) (p : ℕ) → Covered p P → Covered p (places (m at ps .result))
 
 module _ {N D : Type 0} where
-  bind-in-places : {A B : Type 0} (m : Step N D A) (k : A → Step N D B) (P : List Text) (places : A → List Text) (after : B → List Text)
+  bind-in-places : {A B : Type 0} (m : WriteStep N D A) (k : A → WriteStep N D B) (P : List Text) (places : A → List Text) (after : B → List Text)
       → InPlaces m P places → ((at₀ : ℕ) (ps₀ : Pools N D) → InPlaces (k (m at₀ ps₀ .result)) (places (m at₀ ps₀ .result)) after) → InPlaces (m >>= k) P after
   unfolding _>>=_
   bind-in-places m k P places after h e = record {
@@ -81,11 +81,11 @@ module _ {N D : Type 0} where
   unfolding return
   return-in-places a P places h = record { within = λ at ps. tt; kept = λ at ps. h }
 
-  plain-in-places : {A : Type 0} (m : Step N D A) (P : List Text) → PlainStep m → InPlaces m P (λ _. P)
+  plain-in-places : {A : Type 0} (m : WriteStep N D A) (P : List Text) → PlainStep m → InPlaces m P (λ _. P)
   plain-in-places m P h = record { within = λ at ps. plain-within P at (m at ps .cells) (h .plain at ps); kept = λ at ps p c. c }
 
   -- Words ahead of a step, as many as were left for them.
-  ahead-in-places : {A : Type 0} (n : ℕ) (words : A → List ℕ) (m : Step N D A) (P : List Text) (places : A → List Text) → ((at : ℕ) (ps : Pools N D) → length (words (m at ps .result)) ≡ n)
+  ahead-in-places : {A : Type 0} (n : ℕ) (words : A → List ℕ) (m : WriteStep N D A) (P : List Text) (places : A → List Text) → ((at : ℕ) (ps : Pools N D) → length (words (m at ps .result)) ≡ n)
       → InPlaces m P places → InPlaces (ahead n words m) P places
   unfolding ahead
   ahead-in-places n words m P places sized h = record { within = go; kept = λ at ps. h .kept (at + 4 * n) ps }
@@ -97,12 +97,12 @@ module _ {N D : Type 0} where
           let e : length ws ≡ 4 * n = word-cells-length N D (words (q .result)) ∙ ap (λ (k : ℕ). 4 * k) (sized (at + 4 * n) ps) in
           within-append _ at ws _ (plain-within _ at ws (plain-words N D (words (q .result)))) (subst (λ (k : ℕ). Within (at + k) (q .cells) (places (q .result))) (sym e) (h .within (at + 4 * n) ps))
 
-  unless-empty-in-places : (P : List Text) (places : ℕ → List Text) (n : ℕ) (m : Step N D ℕ) → ((p : ℕ) → Covered p P → Covered p (places 0)) → InPlaces m P places → InPlaces (unlessEmpty n m) P places
+  unless-empty-in-places : (P : List Text) (places : ℕ → List Text) (n : ℕ) (m : WriteStep N D ℕ) → ((p : ℕ) → Covered p P → Covered p (places 0)) → InPlaces m P places → InPlaces (unlessEmpty n m) P places
   unfolding unlessEmpty
   unless-empty-in-places P places zero m e h = return-in-places 0 P places e
   unless-empty-in-places P places (suc n) m e h = h
 
-  once-in-places : (P : List Text) (places : ℕ → List Text) (look : Pools N D → Option ℕ) (m : Step N D ℕ) → ((o p : ℕ) → Covered p P → Covered p (places o)) → InPlaces m P places → InPlaces (once true look m) P places
+  once-in-places : (P : List Text) (places : ℕ → List Text) (look : Pools N D → Option ℕ) (m : WriteStep N D ℕ) → ((o p : ℕ) → Covered p P → Covered p (places o)) → InPlaces m P places → InPlaces (once true look m) P places
   unfolding once
   once-in-places P places look m e h = record { within = λ at ps. in-one (look ps) at ps; kept = λ at ps. none-lost (look ps) at ps }
     where
@@ -168,13 +168,13 @@ module _ {N D : Type 0} (O : Oracle N D) where
   unfolding placeSection
   section-in-places P sm5 b =
       bind-in-places pad _ P (λ _. P) (λ s. variablePlaces (b .variables) (s .offsets) ++ P) (plain-in-places pad P plain-pad) λ at₀ ps₀.
-      bind-in-places (ahead (length (b .variables) * variableSize sm5) (rows (variableWords sm5) (b .variables)) (placeVariables O sm5 (eqb (b .cb-type) 0) (b .variables))) _ P
+      bind-in-places (ahead (length (b .variables) * variableSize sm5) (rows (variableWordsInChunk sm5) (b .variables)) (placeVariables O sm5 (eqb (b .cb-type) 0) (b .variables))) _ P
       (λ os. variablePlaces (b .variables) os ++ P) (λ s. variablePlaces (b .variables) (s .offsets) ++ P)
       (ahead-in-places _ _ (placeVariables O sm5 (eqb (b .cb-type) 0) (b .variables)) P (λ os. variablePlaces (b .variables) os ++ P)
-      (λ at ps. rows-length (variableWords sm5) (variableSize sm5) (variable-words-length sm5) (b .variables) _ (variables-length O sm5 (eqb (b .cb-type) 0) (b .variables) at ps))
+      (λ at ps. rows-length (variableWordsInChunk sm5) (variableSize sm5) (variable-words-length sm5) (b .variables) _ (variables-length O sm5 (eqb (b .cb-type) 0) (b .variables) at ps))
       (variables-in-places P sm5 (eqb (b .cb-type) 0) (b .variables))) λ at₁ ps₁.
       return-in-places _
-      (variablePlaces (b .variables) (ahead (length (b .variables) * variableSize sm5) (rows (variableWords sm5) (b .variables)) (placeVariables O sm5 (eqb (b .cb-type) 0) (b .variables)) at₁ ps₁ .result) ++ P)
+      (variablePlaces (b .variables) (ahead (length (b .variables) * variableSize sm5) (rows (variableWordsInChunk sm5) (b .variables)) (placeVariables O sm5 (eqb (b .cb-type) 0) (b .variables)) at₁ ps₁ .result) ++ P)
       (λ s. variablePlaces (b .variables) (s .offsets) ++ P) (λ p c. c)
 
   -- The places of several buffers' defaults.
@@ -244,17 +244,17 @@ module _ {N D : Type 0} (O : Oracle N D) where
   unfolding placeBuffers
   buffers-in-places sm5 [] = return-in-places (0, []) [] (λ o. bufferPlaces [] (o .1)) (λ p c. absurd c)
   buffers-in-places sm5 (b ∷ bs) =
-      let B = ahead (length (b ∷ bs) * bufferSize) (rows bufferWords (b ∷ bs)) (placeBufferParts O sm5 (b ∷ bs)) in
+      let B = ahead (length (b ∷ bs) * bufferSize) (rows bufferWordsInChunk (b ∷ bs)) (placeBufferParts O sm5 (b ∷ bs)) in
       bind-in-places pad _ [] (λ _. []) (λ o. bufferPlaces (b ∷ bs) (o .1)) (plain-in-places pad [] plain-pad) λ at₀ ps₀.
       bind-in-places B _ [] (bufferPlaces (b ∷ bs)) (λ o. bufferPlaces (b ∷ bs) (o .1))
-      (ahead-in-places (length (b ∷ bs) * bufferSize) (rows bufferWords (b ∷ bs)) (placeBufferParts O sm5 (b ∷ bs)) [] (bufferPlaces (b ∷ bs))
-      (λ at ps. rows-length bufferWords bufferSize buffer-words-length (b ∷ bs) _ (buffer-parts-length O sm5 (b ∷ bs) at ps)) (buffer-parts-in-places sm5 (b ∷ bs))) λ at₁ ps₁.
+      (ahead-in-places (length (b ∷ bs) * bufferSize) (rows bufferWordsInChunk (b ∷ bs)) (placeBufferParts O sm5 (b ∷ bs)) [] (bufferPlaces (b ∷ bs))
+      (λ at ps. rows-length bufferWordsInChunk bufferSize buffer-words-length (b ∷ bs) _ (buffer-parts-length O sm5 (b ∷ bs) at ps)) (buffer-parts-in-places sm5 (b ∷ bs))) λ at₁ ps₁.
       return-in-places _ (bufferPlaces (b ∷ bs) (B at₁ ps₁ .result)) (λ o. bufferPlaces (b ∷ bs) (o .1)) (λ p c. c)
 
   body-in-places : (r : ResourceDef N D) → InPlaces (placeBody O r) [] (λ o. bufferPlaces (r .constant-buffers) (o .sections))
   unfolding placeBody
   body-in-places r =
-      let B = ahead (length (r .bindings) * bindingSize (isWide (r .rd11))) (rows (bindingWords (isWide (r .rd11))) (r .bindings)) (placeOuterNames O (map (λ b. b .name) (r .bindings))) in
+      let B = ahead (length (r .bindings) * bindingSize (isWide (r .rd11))) (rows (bindingWordsInChunk (isWide (r .rd11))) (r .bindings)) (placeOuterNames O (map (λ b. b .name) (r .bindings))) in
       let after : BodyOffsets → List Text = λ o. bufferPlaces (r .constant-buffers) (o .sections) in
       bind-in-places B _ [] (λ _. []) after (plain-in-places B [] (plain-ahead _ _ (plain-outer-names O _))) λ at₀ ps₀.
       bind-in-places (placeBuffers O (isSm5 (r .rd11)) (r .constant-buffers)) _ [] (λ o. bufferPlaces (r .constant-buffers) (o .1)) after (buffers-in-places (isSm5 (r .rd11)) (r .constant-buffers)) λ at₁ ps₁.
@@ -265,4 +265,4 @@ module _ {N D : Type 0} (O : Oracle N D) where
   pub cells-within : (r : ResourceDef N D) → Within 0 (layout O r .cells) (defaultPlaces (O .default-length) (layout O r .result) r)
   unfolding layout placeChunk defaultPlaces defaultsOf
   cells-within r =
-      ahead-in-places (headerSize (isSm5 (r .rd11))) (headerWords r) (placeBody O r) [] (λ o. bufferPlaces (r .constant-buffers) (o .sections)) (λ at ps. header-words-length r _) (body-in-places r) .within 0 (pools [] [] [] [] [])
+      ahead-in-places (headerWordCount (isSm5 (r .rd11))) (headerWordsInChunk r) (placeBody O r) [] (λ o. bufferPlaces (r .constant-buffers) (o .sections)) (λ at ps. header-words-length r _) (body-in-places r) .within 0 (pools [] [] [] [] [])

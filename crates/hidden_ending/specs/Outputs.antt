@@ -1,3 +1,4 @@
+-- Vocabulary of proofs: of the functions themselves this is said in crates/guarantees/specs/Noninterference.antt.
 -- The hidden ending in the two outputs: what `write_rdef_canonical` answers and leaves (`writtenOf` and `outputOf` of `write`, by its contract), whatever lay
 -- in the lent outputs before. After a refusal both answers and both outputs are the same. Else both answers are the same length, and each output begins with
 -- its evening's canonical form; these are alike (`Alike`).

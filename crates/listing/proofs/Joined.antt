@@ -6,7 +6,8 @@ use Prim.Native.Nat.{ℕ, _<_}
 use native.Mathlib.Omega.{arith}
 use borrow.Author.Tests.{eq-eqb, ne-eqb}
 use lib.ListN.{length}
-use Rattle.words.specs.Splice.{Put, put-then}
+use Rattle.words.specs.Splice.{Put}
+use Rattle.words.proofs.Splice.{put-then}
 use Rattle.codes.specs.Microsoft.{«D3D_SIF_USERPACKED», «D3D_SIF_COMPARISON_SAMPLER», «D3D_SIF_TEXTURE_COMPONENT_0», «D3D_SIF_TEXTURE_COMPONENT_1», «D3D_SIF_UNUSED»}
 use Rattle.codes.specs.Flags.{flag}
 use Rattle.emit.specs.Digits.{hex}

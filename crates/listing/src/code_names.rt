@@ -4,7 +4,7 @@ ghost use Prim.Native.Nat.{_+_, _≤_};
 ghost use Rattle.words.specs.Splice.{Put};
 ghost use Rattle.codes.specs.InputType.{inputTypeRow};
 ghost use Rattle.codes.specs.Dimension.{dimensionRow};
-ghost use Rattle.emit.specs.Written.{farthest};
+ghost use Rattle.emit.specs.Cursor.{farthest};
 ghost use Rattle.listing.specs.Names.{inputTypeName, listedInputType, dimensionName, listedDimension};
 ghost use Rattle.listing.specs.Listing.{padTo};
 use crate::column::put_text;

@@ -6,7 +6,7 @@ ghost use Prim.Native.Nat.{_+_, _-_, _≤_};
 ghost use lib.Dec.{leb};
 ghost use lib.ListN.{length, replicate};
 ghost use Rattle.words.specs.Splice.{Put};
-ghost use Rattle.emit.specs.Written.{farthest};
+ghost use Rattle.emit.specs.Cursor.{farthest};
 ghost use Rattle.emit.specs.Digits.{decimal};
 ghost use Rattle.listing.specs.Listing.{scalars, padTo};
 

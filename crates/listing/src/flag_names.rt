@@ -4,7 +4,7 @@ ghost use mathlib.Core.List.{List, []};
 ghost use Prim.Native.Nat.{ℕ, _+_, _≤_, _<_};
 ghost use lib.ListN.{length};
 ghost use Rattle.words.specs.Splice.{Put};
-ghost use Rattle.emit.specs.Written.{farthest};
+ghost use Rattle.emit.specs.Cursor.{farthest};
 ghost use Rattle.listing.specs.Names.{flagNames};
 ghost use Rattle.listing.specs.Listing.{joinedBy, setNames, flagsPart};
 use codes::BindingFlags;

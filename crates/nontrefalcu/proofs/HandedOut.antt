@@ -15,7 +15,7 @@ use Rattle.reflection.specs.Tables.{headerOf}
 use Rattle.reader.specs.declared.Parsed.{Parsed}
 use Rattle.reader.specs.declared.Parsed.the-variants.{Read, Refused}
 use Rattle.reader.specs.Parsed.{parsedOf}
-use Rattle.nontrefalcu.specs.Exports.{numberOf, resultTable, headerWords, headerTable}
+use Rattle.nontrefalcu.specs.Exports.{numberOf, resultTable, headerWordsInTable, headerTable}
 
 module _ {A : Type 0} {out : Outcome A} where
   pub value-number : {x : A} → out ≡ ok x → 0 ≡ numberOf out
@@ -48,9 +48,9 @@ module _ {r : Parsed} where
   read-number (refused d) answer read = absurd (let apart : _≡_ {A = ℕ} 0 1 = cc in omega arith)
 
   pub read-header : (out : Outcome (ResourceDef Text Text)) (n : ℕ) {h : Header} {cleared put header : List ℕ} → r ≡ parsedOf out → r ≡ Read h
-      → cleared ≡ replicate n 0 → put ≡ headerWords h → header ≡ splice cleared 0 put → header ≡ headerTable out n
+      → cleared ≡ replicate n 0 → put ≡ headerWordsInTable h → header ≡ splice cleared 0 put → header ≡ headerTable out n
   unfolding parsedOf
   read-header (ok def) n {h} answer read zeros words put =
       let same : h ≡ headerOf def = cc in
-      value-table (λ (d : ResourceDef Text Text). headerWords (headerOf d)) n zeros refl (words ∙ ap headerWords same) put
+      value-table (λ (d : ResourceDef Text Text). headerWordsInTable (headerOf d)) n zeros refl (words ∙ ap headerWordsInTable same) put
   read-header (refused d) n answer read zeros words put = absurd (let apart : _≡_ {A = ℕ} 0 1 = cc in omega arith)

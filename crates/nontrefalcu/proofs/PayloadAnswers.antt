@@ -16,7 +16,7 @@ use Rattle.reflection.specs.declared.ResourceDef.{ResourceDef as Header}
 use Rattle.reflection.specs.Outcome.{Outcome, ok, refused, because}
 use Rattle.reflection.specs.Reflection.{ResourceDef}
 use Rattle.reflection.specs.Contents.{Bytes}
-use Rattle.readable.specs.Readable.{held, readableContents}
+use Rattle.readable.specs.Readable.{tableContents, readableContents}
 use Rattle.readable.proofs.Bools.{check-was}
 use Rattle.emit.specs.Written.{fitsIn, fitting}
 use Rattle.writing.specs.Canonical.{canonical}
@@ -72,16 +72,16 @@ fits-in room chunk (some c) short true = readable-fits (length chunk) room (cano
 fits-in room chunk r short false = tt
 
 module _ (chunk edits : Bytes) (h : Header) (bindings buffers variables types : List ℕ) where
-  held-short : (c : ResourceDef Bytes Bytes) → held chunk edits h bindings buffers variables types ≡ some c → length chunk ≤ chunkLimit
-  unfolding held
+  held-short : (c : ResourceDef Bytes Bytes) → tableContents chunk edits h bindings buffers variables types ≡ some c → length chunk ≤ chunkLimit
+  unfolding tableContents
   held-short c e =
       let (long, e₁) = check-was (leb (length chunk) chunkLimit && leb (length edits) chunkLimit) _ c e in
       let (chunk-long, edits-long) = and-true (leb (length chunk) chunkLimit) (leb (length edits) chunkLimit) long in
       leb-true (length chunk) chunkLimit chunk-long
 
-  pub payload-fits : (room : ℕ) (enough : Bool) {p : Payload} → p ≡ payloadAnswer (payloadWith enough room chunk (held chunk edits h bindings buffers variables types))
+  pub payload-fits : (room : ℕ) (enough : Bool) {p : Payload} → p ≡ payloadAnswer (payloadWith enough room chunk (tableContents chunk edits h bindings buffers variables types))
       → PayloadFits (length chunk) p
-  payload-fits room enough answer = rw answer (fits-in room chunk (held chunk edits h bindings buffers variables types) held-short enough)
+  payload-fits room enough answer = rw answer (fits-in room chunk (tableContents chunk edits h bindings buffers variables types) held-short enough)
 
 -- what `write_payload` and `hand_payload` ensure, for the outcome that was asked for
 module _ {out asked : Outcome Part} (same : out ≡ asked) (chunk : Bytes) (n : ℕ) {p : Payload} {r : ℕ} {words : List ℕ} where

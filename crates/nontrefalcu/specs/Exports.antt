@@ -32,8 +32,8 @@ resultTable words (ok x) n = splice (replicate n 0) 0 (words x)
 resultTable words (refused e) n = replicate n 0
 
 -- The header's words, and a lent header of n words.
-unfoldable pub headerWords : Header → List ℕ
-headerWords h =
+unfoldable pub headerWordsInTable : Header → List ℕ
+headerWordsInTable h =
     h .«target_version» ∷ h .«compile_flags» ∷ h .creator .source ∷ h .creator .place ∷ h .creator .length
     ∷ h .rd11 .identifier ∷ h .rd11 .«resource_binding_stride» ∷ h .rd11 .«interface_slot_count»
     ∷ h .«binding_count» ∷ h .«buffer_count» ∷ h .«variable_count» ∷ h .«type_count» ∷ []
@@ -52,7 +52,7 @@ headerAt w = record {
 }
 
 abbrev pub headerTable : Outcome (ResourceDef Text Text) → ℕ → List ℕ
-headerTable out n = resultTable (λ (r : ResourceDef Text Text). headerWords (headerOf r)) out n
+headerTable out n = resultTable (λ (r : ResourceDef Text Text). headerWordsInTable (headerOf r)) out n
 
 -- A written text's length in a lent length of n words.
 abbrev pub oneWord : ℕ → List ℕ

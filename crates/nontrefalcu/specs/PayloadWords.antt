@@ -4,7 +4,7 @@ use Prim.Native.Nat.{ℕ, _≤_}
 use lib.ListN.{length}
 use Rattle.reflection.specs.Limits.{chunkLimit}
 use Rattle.reflection.specs.Outcome.{Outcome, ok, refused}
-use Rattle.readable.specs.Readable.{held}
+use Rattle.readable.specs.Readable.{tableContents}
 use Rattle.writing.specs.Payload.{Part, wholeChunk, written}
 use Rattle.payload.specs.declared.Payload.{Payload}
 use Rattle.payload.specs.declared.Payload.the-variants.{Chunk, Output, Refused}
@@ -26,7 +26,7 @@ payloadInto chunk edits header bindings buffers variables types foundBindings fo
     (roomEnough (length foundBindings) (length foundBuffers) (length foundVariables) (length foundTypes) (length scratch))
     (length out)
     chunk
-    (held chunk edits (headerAt header) bindings buffers variables types)
+    (tableContents chunk edits (headerAt header) bindings buffers variables types)
 
 -- Lengths that are words: the chunk's where the payload is the chunk, the written bytes' where it is the output.
 abbrev pub PayloadFits : ℕ → Payload → Type 0

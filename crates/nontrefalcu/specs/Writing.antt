@@ -3,11 +3,11 @@ use mathlib.Core.List.{List}
 use Prim.Native.Nat.{ℕ}
 use lib.ListN.{length}
 use Rattle.reflection.specs.Outcome.{Outcome}
-use Rattle.readable.specs.Readable.{held}
+use Rattle.readable.specs.Readable.{tableContents}
 use Rattle.writing.specs.Outcome.{write}
 use Rattle.nontrefalcu.specs.Exports.{headerAt}
 
 -- The canonical form of the reflection, for scratch and an output as long as these.
 unfoldable pub canonicalInto : List ℕ → List ℕ → List ℕ → List ℕ → List ℕ → List ℕ → List ℕ → List ℕ → List ℕ → Outcome (List ℕ)
 canonicalInto chunk edits header bindings buffers variables types scratch out =
-    write (length scratch) (length out) (held chunk edits (headerAt header) bindings buffers variables types)
+    write (length scratch) (length out) (tableContents chunk edits (headerAt header) bindings buffers variables types)

@@ -3,13 +3,13 @@ ghost use mathlib.Core.Path.{_≡_};
 ghost use lib.ListN.{length};
 ghost use Rattle.reflection.specs.Tables.{bindingRows, bufferRows, variableRows, typeRows, table};
 ghost use Rattle.reader.specs.Parsed.{readInto};
-ghost use Rattle.nontrefalcu.specs.Exports.{numberOf, headerWords, headerTable};
+ghost use Rattle.nontrefalcu.specs.Exports.{numberOf, headerWordsInTable, headerTable};
 use reader::Parsed;
 use reflection::ResourceDef;
 
 // The header's words.
 fn header_words(def: ResourceDef) -> [u32; reflection::HEADER_WORDS]
-    ensures { λ r. ⌜ r ≡ headerWords def ⌝ }
+    ensures { λ r. ⌜ r ≡ headerWordsInTable def ⌝ }
 {
     let creator = def.creator;
     let rd11 = def.rd11;

@@ -18,7 +18,7 @@ use Rattle.reflection.specs.Records.{bindingWidth, bufferWidth, variableWidth, 
 use Rattle.reflection.specs.Contents.{Bytes, contents}
 use Rattle.reading.specs.Step.{Room, room, roomOf, fullRoom}
 use Rattle.reading.specs.Read.{read}
-use Rattle.readable.specs.Readable.{held, readable}
+use Rattle.readable.specs.Readable.{tableContents, readable}
 use Rattle.readable.proofs.ReadableTables.{Readable, readable-holds}
 use Rattle.readable.proofs.Reading.{tables-at-most-full, read-readable}
 use Rattle.reader.specs.Parsed.{readInto}
@@ -27,7 +27,7 @@ use Rattle.reader.proofs.Decoded as reading-back
 use Rattle.writing.specs.Same.{sameDef}
 use Rattle.writing.specs.Payload.{readAs, unedited}
 use Rattle.type_equality.specs.Same.{sameName}
-use Rattle.table_placing.specs.Held.{reflectionHeld}
+use Rattle.table_placing.specs.TableReflection.{reflectionInTables}
 use Rattle.table_placing.proofs.Decoded.{decoded}
 use Rattle.payload.specs.Answer.{uneditedHeld}
 use Rattle.payload.proofs.Contents.{same-contents}
@@ -35,7 +35,7 @@ use Rattle.payload.proofs.Found.{found-contents}
 
 -- A readable reflection is what its tables hold, record by record.
 as-held : (chunk edits : Bytes) (h : Header) (bindings buffers variables types : List ℕ) (holds : Readable chunk edits h bindings buffers variables types)
-    → holds .def ≡ reflectionHeld h bindings buffers variables types
+    → holds .def ≡ reflectionInTables h bindings buffers variables types
 as-held chunk edits h bindings buffers variables types holds = decoded h bindings buffers variables types (holds .def) (holds .decoded) .is
 
 -- The room of tables that are long enough is the whole room.
@@ -62,26 +62,26 @@ module _ (chunk : Bytes) (bytes : (i : ℕ) → getD chunk i 0 < 256) (b f v t :
   found-def : found-readable .def ≡ found .def
   found-def = Option·some-injective (found-readable .def) (found .def) (sym (found-readable .decoded) ∙ reading-back.decoded chunk b f v t found)
 
-  pub found-held : found .def ≡ reflectionHeld h bindings buffers variables types
+  pub found-held : found .def ≡ reflectionInTables h bindings buffers variables types
   found-held = sym found-def ∙ as-held chunk [] h bindings buffers variables types found-readable
 
 -- The two answers, for a reflection that is readable and a chunk that was read with the whole room.
 module _ (chunk edits : Bytes) (h : Header) (bindings buffers variables types : List ℕ) (holds : Readable chunk edits h bindings buffers variables types)
     (b f v t : List ℕ) (whole : roomOf (length b) (length f) (length v) (length t) ≡ fullRoom) where
   in-full-room : (out : Outcome (ResourceDef Text Text)) → readInto chunk b f v t ≡ out
-      → uneditedHeld chunk (held chunk edits h bindings buffers variables types) ≡ readAs chunk out (contents chunk edits (holds .def))
+      → uneditedHeld chunk (tableContents chunk edits h bindings buffers variables types) ≡ readAs chunk out (contents chunk edits (holds .def))
   unfolding uneditedHeld unedited readInto
   in-full-room out e =
       ap (uneditedHeld chunk) (holds .is-held)
       ∙ ap (λ (o : Outcome (ResourceDef Text Text)). readAs chunk o (contents chunk edits (holds .def))) (ap (λ (r : Room). read r chunk) (sym whole) ∙ e)
 
-  pub unread-edited : (e : Refusal) → readInto chunk b f v t ≡ refused e → false ≡ uneditedHeld chunk (held chunk edits h bindings buffers variables types)
+  pub unread-edited : (e : Refusal) → readInto chunk b f v t ≡ refused e → false ≡ uneditedHeld chunk (tableContents chunk edits h bindings buffers variables types)
   unread-edited e is = sym (in-full-room (refused e) is)
 
   pub read-compared : (bytes : (i : ℕ) → getD chunk i 0 < 256) {nb nf nv nt : ℕ} {x : Header} {fb ff fv ft : List ℕ}
       (found : Held (readInto chunk b f v t) nb nf nv nt x fb ff fv ft)
-      → sameDef (sameName chunk edits) (sameName chunk edits) (reflectionHeld x fb ff fv ft) (reflectionHeld h bindings buffers variables types)
-      ≡ uneditedHeld chunk (held chunk edits h bindings buffers variables types)
+      → sameDef (sameName chunk edits) (sameName chunk edits) (reflectionInTables x fb ff fv ft) (reflectionInTables h bindings buffers variables types)
+      ≡ uneditedHeld chunk (tableContents chunk edits h bindings buffers variables types)
   unfolding readInto
   read-compared bytes found =
       let own = sym (as-held chunk edits h bindings buffers variables types holds) in

@@ -15,8 +15,8 @@ use Rattle.reflection.specs.Reflection.{TypeDesc, typeDesc, Members, member, Rd
 use Rattle.reflection.specs.Texts.{textBytes}
 use Rattle.reflection.specs.Contents.{Bytes, contents}
 use Rattle.reflection.specs.Nodes.{typeLevels}
-use Rattle.reading.specs.Step.{Room, room, Step, return, refuse, textOr}
-use Rattle.reading.specs.Read.{readMany, readMembers, numbersFrom, readType, readVariable, variableFrom, variableStride, readBinding, bindingFrom, readBuffer, bufferFrom, readTables, readChunk, withoutRoom, read}
+use Rattle.reading.specs.Step.{Room, room, ReadStep, return, refuse, textOr}
+use Rattle.reading.specs.Read.{readMany, readMembers, numbersFrom, readType, readVariable, variableFromChunk, variableStride, readBinding, bindingFromChunk, readBuffer, bufferFromChunk, readTables, readChunk, withoutRoom, read}
 use Rattle.reading.proofs.Steps.{Gives, then-gives, any-gives}
 
 module _ (s edits : Bytes) where
@@ -68,7 +68,7 @@ module _ (s edits : Bytes) where
   text-same n (At place k) r = refl
   text-same n Bad r = tt
 
-  members-same : (readType : ℕ → Step (TypeDesc Text)) → ((at : ℕ) (r : Room) → Gives (λ t. mapType f t ≡ mapType g t) (readType at r))
+  members-same : (readType : ℕ → ReadStep (TypeDesc Text)) → ((at : ℕ) (r : Room) → Gives (λ t. mapType f t ≡ mapType g t) (readType at r))
       → (n at : ℕ) (r : Room) → Gives (λ ms. mapMembers f ms ≡ mapMembers g ms) (readMembers readType s n at r)
   unfolding readMembers return mapMembers
   members-same readType h zero at r = refl
@@ -86,7 +86,7 @@ module _ (s edits : Bytes) where
       then-gives (λ ms. mapMembers f ms ≡ mapMembers g ms) P _ _ (members-same _ (λ below. type-same sm5 levels (at ∷ path) below) _ _) (λ ms o.
       then-gives (λ t. f t ≡ g t) P _ _ (text-same _ _) (λ name p w. (λ i. typeDesc (numbersFrom s sm5 at) (p i) (o i))))))) r
 
-  many-same : {A B : Type 0} (h k : A → B) (read : ℕ → Step A) → ((at : ℕ) (r : Room) → Gives (λ x. h x ≡ k x) (read at r))
+  many-same : {A B : Type 0} (h k : A → B) (read : ℕ → ReadStep A) → ((at : ℕ) (r : Room) → Gives (λ x. h x ≡ k x) (read at r))
       → (stride n at : ℕ) (r : Room) → Gives (λ xs. map h xs ≡ map k xs) (readMany read stride n at r)
   unfolding readMany return
   many-same h k read each stride zero at r = refl
@@ -95,27 +95,27 @@ module _ (s edits : Bytes) where
       then-gives (λ xs. map h xs ≡ map k xs) (λ xs. map h xs ≡ map k xs) _ _ (many-same h k read each stride n (at + stride)) (λ xs o w. (λ i. p i ∷ o i))) r
 
   variable-same : (sm5 : Bool) (at : ℕ) (r : Room) → Gives (λ v. mapVariable f f v ≡ mapVariable g g v) (readVariable s sm5 at r)
-  unfolding readVariable variableFrom return mapVariable
+  unfolding readVariable variableFromChunk return mapVariable
   variable-same sm5 at r =
       let P : CBufferVariable Text Text → Type 0 = λ v. mapVariable f f v ≡ mapVariable g g v in
       any-gives P _ _ (λ _. any-gives P _ _ (λ _. then-gives (λ t. f t ≡ g t) P _ _ (text-same _ _) (λ default d. then-gives (λ t. f t ≡ g t) P _ _ (text-same _ _) (λ name p.
       then-gives (λ t. mapType f t ≡ mapType g t) P _ _ (type-same sm5 typeLevels [] _) (λ t q w.
-      variable-by (variableFrom s sm5 at name default t) p d q))))) r
+      variable-by (variableFromChunk s sm5 at name default t) p d q))))) r
 
   buffer-same : (sm5 : Bool) (at : ℕ) (r : Room) → Gives (λ b. mapBuffer f f b ≡ mapBuffer g g b) (readBuffer s sm5 at r)
-  unfolding readBuffer bufferFrom return mapBuffer
+  unfolding readBuffer bufferFromChunk return mapBuffer
   buffer-same sm5 at r =
       let P : CBufferDef Text Text → Type 0 = λ b. mapBuffer f f b ≡ mapBuffer g g b in
       any-gives P _ _ (λ _. any-gives P _ _ (λ _.
       then-gives (λ vs. map (mapVariable f f) vs ≡ map (mapVariable g g) vs) P _ _ (many-same (mapVariable f f) (mapVariable g g) (readVariable s sm5) (variable-same sm5) (variableStride sm5) _ _) (λ vs o.
-      then-gives (λ t. f t ≡ g t) P _ _ (text-same _ _) (λ name p w. buffer-by (bufferFrom s at name vs) p o)))) r
+      then-gives (λ t. f t ≡ g t) P _ _ (text-same _ _) (λ name p w. buffer-by (bufferFromChunk s at name vs) p o)))) r
 
   binding-same : (wide : Bool) (at : ℕ) (r : Room) → Gives (λ b. mapBinding f b ≡ mapBinding g b) (readBinding s wide at r)
-  unfolding readBinding bindingFrom return mapBinding
+  unfolding readBinding bindingFromChunk return mapBinding
   binding-same wide at r =
       let P : ResourceBinding Text → Type 0 = λ b. mapBinding f b ≡ mapBinding g b in
       any-gives P _ _ (λ _. any-gives P _ _ (λ _. any-gives P _ _ (λ _. any-gives P _ _ (λ _. any-gives P _ _ (λ _.
-      then-gives (λ t. f t ≡ g t) P _ _ (text-same _ _) (λ name p w. binding-by (bindingFrom s wide at name) p)))))) r
+      then-gives (λ t. f t ≡ g t) P _ _ (text-same _ _) (λ name p w. binding-by (bindingFromChunk s wide at name) p)))))) r
 
   tables-same : (creator : Text) → f creator ≡ g creator → (words : Rd11) (r : Room) → Gives (λ d. contents s [] d ≡ contents s edits d) (readTables s creator words r)
   unfolding readTables return contents mapDef

@@ -11,7 +11,8 @@ use lib.Dec.{leb}
 use lib.ListN.{length, getD, take, drop}
 use lib.Seq.{take-all, take-append-le}
 use Rattle.words.specs.Parts.{inside, part}
-use Rattle.words.specs.Splice.{splice, length-splice, splice-eq}
+use Rattle.words.specs.Splice.{splice}
+use Rattle.words.proofs.Splice.{length-splice, splice-eq}
 use Rattle.text.specs.Same.{sameBytes}
 use Rattle.reflection.specs.Limits.{chunkLimit}
 use Rattle.reflection.specs.Refusals.{notReadable, outputTooSmall}
@@ -23,7 +24,7 @@ use Rattle.reflection.specs.Tables.{padded, bindingRows, bufferRows, variableRo
 use Rattle.reflection.specs.Contents.{Bytes, contents}
 use Rattle.reading.specs.Step.{Room, roomOf, fullRoom}
 use Rattle.reading.specs.Read.{read}
-use Rattle.readable.specs.Readable.{held, readableContents}
+use Rattle.readable.specs.Readable.{tableContents, readableContents}
 use Rattle.readable.proofs.Reading.{AtMostFull, tables-at-most-full, read-contents, read-held}
 use Rattle.reader.specs.Parsed.{readInto}
 use Rattle.reader.proofs.Held.{Held}
@@ -62,7 +63,7 @@ module _
       ∙ same-def-refl (contents chunk edits d)
 
   pub unedited-hands-chunk : (nb nf nv nt : ℕ)
-      → payload out chunk (held chunk edits (headerOf d) (padded nb (bindingRows d)) (padded nf (bufferRows d)) (padded nv (variableRows d)) (padded nt (typeRows d))) ≡ ok wholeChunk
+      → payload out chunk (tableContents chunk edits (headerOf d) (padded nb (bindingRows d)) (padded nf (bufferRows d)) (padded nv (variableRows d)) (padded nt (typeRows d))) ≡ ok wholeChunk
   unfolding payload payloadOf
   unedited-hands-chunk nb nf nv nt =
       ap (payload out chunk) (read-held chunk edits bytes r full d reads short nb nf nv nt)
@@ -72,10 +73,10 @@ module _
 -- So of what `parse_rdef` left in the tables that it was lent, of whatever length they are.
 pub read-hands-chunk : (out : ℕ) (chunk edits : Bytes) → ((i : ℕ) → getD chunk i 0 < 256) → length edits ≤ chunkLimit
     → (b f v t : List ℕ) {nb nf nv nt : ℕ} {h : Header} {bindings buffers variables types : List ℕ}
-    → Held (readInto chunk b f v t) nb nf nv nt h bindings buffers variables types → payload out chunk (held chunk edits h bindings buffers variables types) ≡ ok wholeChunk
+    → Held (readInto chunk b f v t) nb nf nv nt h bindings buffers variables types → payload out chunk (tableContents chunk edits h bindings buffers variables types) ≡ ok wholeChunk
 unfolding readInto
 read-hands-chunk out chunk edits bytes short b f v t {nb} {nf} {nv} {nt} found =
-    (λ i. payload out chunk (held chunk edits (found .header i) (found .in-bindings i) (found .in-buffers i) (found .in-variables i) (found .in-types i)))
+    (λ i. payload out chunk (tableContents chunk edits (found .header i) (found .in-bindings i) (found .in-buffers i) (found .in-variables i) (found .in-types i)))
     ∙ unedited-hands-chunk out chunk edits bytes short (roomOf (length b) (length f) (length v) (length t)) (tables-at-most-full (length b) (length f) (length v) (length t)) (found .def) (found .is) nb nf nv nt
 
 -- What is handed back for a reflection.
@@ -125,13 +126,13 @@ module _ (room : ℕ) (chunk : Bytes) (r : ResourceDef Bytes Bytes) where
 
 -- So of what a header and tables of words hold: what is handed back reads as that.
 pub payload-reads-back : (room : ℕ) (chunk edits : Bytes) (h : Header) (bindings buffers variables types : List ℕ) → HeaderWords h → WordTable bindings → WordTable buffers
-    → WordTable variables → WordTable types → (p : Part) → payload room chunk (held chunk edits h bindings buffers variables types) ≡ ok p
-    → (r : ResourceDef Bytes Bytes) × (held chunk edits h bindings buffers variables types ≡ some r) × ReadsBack (handedBack chunk p) r
+    → WordTable variables → WordTable types → (p : Part) → payload room chunk (tableContents chunk edits h bindings buffers variables types) ≡ ok p
+    → (r : ResourceDef Bytes Bytes) × (tableContents chunk edits h bindings buffers variables types ≡ some r) × ReadsBack (handedBack chunk p) r
 unfolding payload
-payload-reads-back room chunk edits h bindings buffers variables types header b f v t p e = go (held chunk edits h bindings buffers variables types) refl e
+payload-reads-back room chunk edits h bindings buffers variables types header b f v t p e = go (tableContents chunk edits h bindings buffers variables types) refl e
   where
-    go : (o : Option (ResourceDef Bytes Bytes)) → held chunk edits h bindings buffers variables types ≡ o → payload room chunk o ≡ ok p
-        → (r : ResourceDef Bytes Bytes) × (held chunk edits h bindings buffers variables types ≡ some r) × ReadsBack (handedBack chunk p) r
+    go : (o : Option (ResourceDef Bytes Bytes)) → tableContents chunk edits h bindings buffers variables types ≡ o → payload room chunk o ≡ ok p
+        → (r : ResourceDef Bytes Bytes) × (tableContents chunk edits h bindings buffers variables types ≡ some r) × ReadsBack (handedBack chunk p) r
     go none is q = absurd (let apart : _≡_ {A = ℕ} 0 1 = cc in omega arith)
     go (some r) is q = (r, is, edited-reads-back room chunk r (held-words chunk edits h bindings buffers variables types header b f v t r is) p q)
 

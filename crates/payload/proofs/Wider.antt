@@ -11,7 +11,7 @@ use Rattle.reflection.specs.declared.Text.{Text}
 use Rattle.reflection.specs.Outcome.{Outcome, ok, refused}
 use Rattle.reflection.specs.Reflection.{TypeDesc, Rd11, ResourceDef}
 use Rattle.reflection.specs.Nodes.{typeLevels}
-use Rattle.reading.specs.Step.{Room, room, Step, andThen, _>>=_, return, refuse, check, textOr, oneLess, takeBinding, takeBuffer, takeVariable, takeType}
+use Rattle.reading.specs.Step.{Room, room, ReadStep, andThen, _>>=_, return, refuse, check, textOr, oneLess, takeBinding, takeBuffer, takeVariable, takeType}
 use Rattle.reading.specs.Read.{readMany, readMembers, readType, readVariable, variableStride, readBinding, readBuffer, readRd11, readTables, readChunk, withoutRoom, read}
 
 -- Room for no more records than other room has.
@@ -27,7 +27,7 @@ record Gave {A : Type 0} (x : Outcome (A × Room)) (a : A) (q : Room) : Type 0 w
   is : x ≡ ok (a, left)
   more : AtMost q left
 
-record Widens {A : Type 0} (m : Step A) : Type 0 where
+record Widens {A : Type 0} (m : ReadStep A) : Type 0 where
   wide : (r w : Room) → AtMost r w → (a : A) (q : Room) → m r ≡ ok (a, q) → Gave (m w) a q
 
 return-widens : {A : Type 0} (a : A) → Widens (return a)
@@ -76,7 +76,7 @@ type-widens : Widens takeType
 unfolding takeType
 type-widens = record { wide = λ r w h u q e. less-widens (r .types) (w .types) _ _ (h .types) (λ k l s. record { bindings = h .bindings; buffers = h .buffers; variables = h .variables; types = s }) u q e }
 
-then-widens : {A B : Type 0} (m : Step A) (f : A → Step B) → Widens m → ((a : A) → Widens (f a)) → Widens (m >>= f)
+then-widens : {A B : Type 0} (m : ReadStep A) (f : A → ReadStep B) → Widens m → ((a : A) → Widens (f a)) → Widens (m >>= f)
 unfolding _>>=_
 then-widens {A} {B} m f first next = record { wide = λ r w h b q e. go r w h b q (m r) refl e }
   where
@@ -87,13 +87,13 @@ then-widens {A} {B} m f first next = record { wide = λ r w h b q e. go r w h b 
         record { left = two .left; is = ap (λ (o : Outcome (A × Room)). andThen o f) (one .is) ∙ two .is; more = two .more }
     go r w h b q (refused d) is e = absurd (let apart : _≡_ {A = ℕ} 0 1 = cc in omega arith)
 
-many-widens : {A : Type 0} (one : ℕ → Step A) → ((at : ℕ) → Widens (one at)) → (stride n at : ℕ) → Widens (readMany one stride n at)
+many-widens : {A : Type 0} (one : ℕ → ReadStep A) → ((at : ℕ) → Widens (one at)) → (stride n at : ℕ) → Widens (readMany one stride n at)
 unfolding readMany
 many-widens one each stride zero at = return-widens []
 many-widens one each stride (suc n) at = then-widens _ _ (each at) (λ x. then-widens _ _ (many-widens one each stride n (at + stride)) (λ xs. return-widens (x ∷ xs)))
 
 module _ (s : List ℕ) where
-  members-widen : (one : ℕ → Step (TypeDesc Text)) → ((at : ℕ) → Widens (one at)) → (n at : ℕ) → Widens (readMembers one s n at)
+  members-widen : (one : ℕ → ReadStep (TypeDesc Text)) → ((at : ℕ) → Widens (one at)) → (n at : ℕ) → Widens (readMembers one s n at)
   unfolding readMembers
   members-widen one each zero at = return-widens _
   members-widen one each (suc n) at =

@@ -1,3 +1,4 @@
+-- Vocabulary of the payload's laws (proofs/HandedBack.antt); no contract cites it.
 -- Bytes that read as a reflection, with document 01's whole room: every number, name and default of it, byte for byte.
 use mathlib.Core.Path.{_≡_}
 use mathlib.Core.List.{[]}

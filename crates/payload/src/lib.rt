@@ -5,7 +5,7 @@ ghost use Prim.Native.Nat.{_≤_};
 ghost use lib.ListN.{length, replicate};
 ghost use Rattle.reflection.specs.Limits.{bindingTable, bufferTable, variableTable, typeTable};
 ghost use Rattle.reflection.specs.Outcome.{refused, because};
-ghost use Rattle.readable.specs.Readable.{held, readable};
+ghost use Rattle.readable.specs.Readable.{tableContents, readable};
 ghost use Rattle.payload.specs.Answer.{roomEnough, uneditedHeld, writtenAnswer, payloadWith, payloadAnswer, payloadOutput, payloadPart, payloadPlace};
 use emit::Written;
 use reader::Parsed;
@@ -75,7 +75,7 @@ fn unedited<'a>(
     requires { ⌜ readable (now chunk) (now edits) def (now bindings) (now buffers) (now variables) (now types) ≡ true ⌝ }
     requires { ⌜ (bindingTable ≤ length (now «found_bindings»)) × ((bufferTable ≤ length (now «found_buffers»))
         × ((variableTable ≤ length (now «found_variables»)) × (typeTable ≤ length (now «found_types»)))) ⌝ }
-    ensures answer { λ r. ⌜ r ≡ uneditedHeld (now (chunk .entry)) (held (now (chunk .entry)) (now (edits .entry)) def (now (bindings .entry)) (now (buffers .entry)) (now (variables .entry)) (now (types .entry))) ⌝ }
+    ensures answer { λ r. ⌜ r ≡ uneditedHeld (now (chunk .entry)) (tableContents (now (chunk .entry)) (now (edits .entry)) def (now (bindings .entry)) (now (buffers .entry)) (now (variables .entry)) (now (types .entry))) ⌝ }
     ensures bindings { λ _. ⌜ length (now («found_bindings» .exit)) ≡ length (now («found_bindings» .entry)) ⌝ }
     ensures buffers { λ _. ⌜ length (now («found_buffers» .exit)) ≡ length (now («found_buffers» .entry)) ⌝ }
     ensures variables { λ _. ⌜ length (now («found_variables» .exit)) ≡ length (now («found_variables» .entry)) ⌝ }
@@ -126,11 +126,11 @@ fn find_payload<'a>(
     ensures answer { λ r. ⌜ r ≡ payloadAnswer (payloadWith
         (roomEnough (length (now («found_bindings» .entry))) (length (now («found_buffers» .entry))) (length (now («found_variables» .entry))) (length (now («found_types» .entry))) (length (now (scratch .entry))))
         (length (now (out .entry))) (now (chunk .entry))
-        (held (now (chunk .entry)) (now (edits .entry)) def (now (bindings .entry)) (now (buffers .entry)) (now (variables .entry)) (now (types .entry)))) ⌝ }
+        (tableContents (now (chunk .entry)) (now (edits .entry)) def (now (bindings .entry)) (now (buffers .entry)) (now (variables .entry)) (now (types .entry)))) ⌝ }
     ensures out { λ _. ⌜ now (out .exit) ≡ payloadOutput (payloadWith
         (roomEnough (length (now («found_bindings» .entry))) (length (now («found_buffers» .entry))) (length (now («found_variables» .entry))) (length (now («found_types» .entry))) (length (now (scratch .entry))))
         (length (now (out .entry))) (now (chunk .entry))
-        (held (now (chunk .entry)) (now (edits .entry)) def (now (bindings .entry)) (now (buffers .entry)) (now (variables .entry)) (now (types .entry)))) (now (out .entry)) ⌝ }
+        (tableContents (now (chunk .entry)) (now (edits .entry)) def (now (bindings .entry)) (now (buffers .entry)) (now (variables .entry)) (now (types .entry)))) (now (out .entry)) ⌝ }
     ensures bindings { λ _. ⌜ length (now («found_bindings» .exit)) ≡ length (now («found_bindings» .entry)) ⌝ }
     ensures buffers { λ _. ⌜ length (now («found_buffers» .exit)) ≡ length (now («found_buffers» .entry)) ⌝ }
     ensures variables { λ _. ⌜ length (now («found_variables» .exit)) ≡ length (now («found_variables» .entry)) ⌝ }
@@ -200,11 +200,11 @@ pub fn write_payload<'a>(
     ensures answer { λ r. ⌜ r ≡ payloadAnswer (payloadWith
         (roomEnough (length (now («found_bindings» .entry))) (length (now («found_buffers» .entry))) (length (now («found_variables» .entry))) (length (now («found_types» .entry))) (length (now (scratch .entry))))
         (length (now (out .entry))) (now (chunk .entry))
-        (held (now (chunk .entry)) (now (edits .entry)) def (now (bindings .entry)) (now (buffers .entry)) (now (variables .entry)) (now (types .entry)))) ⌝ }
+        (tableContents (now (chunk .entry)) (now (edits .entry)) def (now (bindings .entry)) (now (buffers .entry)) (now (variables .entry)) (now (types .entry)))) ⌝ }
     ensures out { λ _. ⌜ now (out .exit) ≡ payloadOutput (payloadWith
         (roomEnough (length (now («found_bindings» .entry))) (length (now («found_buffers» .entry))) (length (now («found_variables» .entry))) (length (now («found_types» .entry))) (length (now (scratch .entry))))
         (length (now (out .entry))) (now (chunk .entry))
-        (held (now (chunk .entry)) (now (edits .entry)) def (now (bindings .entry)) (now (buffers .entry)) (now (variables .entry)) (now (types .entry)))) (now (out .entry)) ⌝ }
+        (tableContents (now (chunk .entry)) (now (edits .entry)) def (now (bindings .entry)) (now (buffers .entry)) (now (variables .entry)) (now (types .entry)))) (now (out .entry)) ⌝ }
     ensures bindings { λ _. ⌜ now («found_bindings» .exit) ≡ replicate (length (now («found_bindings» .entry))) 0 ⌝ }
     ensures buffers { λ _. ⌜ now («found_buffers» .exit) ≡ replicate (length (now («found_buffers» .entry))) 0 ⌝ }
     ensures variables { λ _. ⌜ now («found_variables» .exit) ≡ replicate (length (now («found_variables» .entry))) 0 ⌝ }

@@ -7,9 +7,10 @@ use Prim.Native.Nat.{ℕ, suc, _+_, _*_, _≤_, _<_}
 use native.Mathlib.Omega.{arith}
 use lib.ListN.{length, set, length-append}
 use lib.Seq.{set-comm, sets}
-use Rattle.words.specs.Splice.{splice, splice-append, Put, put-length}
+use Rattle.words.specs.Splice.{splice, Put}
+use Rattle.words.proofs.Splice.{splice-append, put-length}
 use Rattle.reflection.specs.declared.Text.{Text}
-use Rattle.writing.specs.Step.{Pools, Placed, Step, ahead, wordCells}
+use Rattle.writing.specs.Step.{Pools, Placed, WriteStep, ahead, wordCells}
 use Rattle.writing.proofs.Sizes.{word-cells-length}
 use Rattle.placing.specs.Ran.{Exact, Over, Ran, cellBytes}
 use Rattle.placing.specs.Bytes.{joinedBytes}
@@ -37,7 +38,7 @@ put-ahead {l} {l₁} {l₂} {xs} {ys} {a} {r₁} {r₂} p q = record {
 
 module _ (chunk edits : List ℕ) where
   -- the step ran from behind n words; then the words were written at the cursor
-  pub ran-ahead : {A : Type 0} {m : Step Text Text A} (n : ℕ) (words : A → List ℕ) {at to end : ℕ} {ps ps′ : Pools Text Text} {out out₁ out₂ : List ℕ} {a : A}
+  pub ran-ahead : {A : Type 0} {m : WriteStep Text Text A} (n : ℕ) (words : A → List ℕ) {at to end : ℕ} {ps ps′ : Pools Text Text} {out out₁ out₂ : List ℕ} {a : A}
       → length (words (m (at + 4 * n) ps .result)) ≡ n → Ran chunk edits m (at + 4 * n) ps out out₁ a to ps′ → Put out₁ at (joinedBytes (words a)) out₂ end
       → Ran chunk edits (ahead n words m) at ps out out₂ a to ps′
   unfolding ahead

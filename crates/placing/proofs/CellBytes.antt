@@ -12,7 +12,8 @@ use Rattle.reflection.specs.declared.Text.{Text}
 use Rattle.reflection.specs.Texts.{textBytes}
 use Rattle.writing.specs.Step.{Cell, byte, nameByte, defaultByte, wordCells, cellsOf}
 use Rattle.writing.specs.Layout.{nameCells}
-use Rattle.writing.specs.Canonical.{bytesOracle, through, fillThrough}
+use Rattle.writing.specs.Canonical.{bytesOracle}
+use Rattle.writing.specs.Through.{through, fillThrough}
 use Rattle.placing.specs.Ran.{textOracle, cellBytes}
 use Rattle.placing.specs.Bytes.{joinedBytes}
 

@@ -15,9 +15,10 @@ use Rattle.text.specs.Same.{sameBytes}
 use Rattle.reflection.specs.declared.Text.{Text}
 use Rattle.reflection.specs.Texts.{textBytes}
 use Rattle.reflection.specs.Limits.{chunkLimit}
-use Rattle.writing.specs.Step.{Pools, Step, _>>=_, append, remember, pad, paddingAt, find, once, cellsOf, defaultByte, addOuterName, addInnerName, addDefault}
+use Rattle.writing.specs.Step.{Pools, WriteStep, _>>=_, append, remember, pad, paddingAt, find, once, cellsOf, defaultByte, addOuterName, addInnerName, addDefault}
 use Rattle.writing.specs.Layout.{nameCells, placeOuterName, placeInnerName, placeDefault}
-use Rattle.writing.specs.Canonical.{bytesOracle, through}
+use Rattle.writing.specs.Canonical.{bytesOracle}
+use Rattle.writing.specs.Through.{through}
 use Rattle.text_pool.specs.declared.Pooled.{Pooled}
 use Rattle.text_pool.specs.declared.Pooled.the-variants.{At, Absent}
 use Rattle.text_pool.specs.Pool.{Indexed, entries, bucketOf, pooledAt, Remembered}
@@ -75,11 +76,11 @@ module _ (chunk edits : List ℕ) where
 
   -- a step that looks a text up among the entries that `get` reads off the pools
   module _ (text : Text) (get : Pools Text Text → List (Text × ℕ)) {es : List (Text × ℕ)} where
-    intern-found : (m : Step Text Text ℕ) (offset at : ℕ) (ps : Pools Text Text) (out : List ℕ) → get ps ≡ es → search text es ≡ some offset
+    intern-found : (m : WriteStep Text Text ℕ) (offset at : ℕ) (ps : Pools Text Text) (out : List ℕ) → get ps ≡ es → search text es ≡ some offset
         → Ran chunk edits (once true (λ qs. search text (get qs)) m) at ps out out offset at ps
     intern-found m offset at ps out e h = ran-once-found chunk edits (λ qs. search text (get qs)) m offset at ps out (ap (search text) e ∙ h)
 
-    intern-fresh : {m : Step Text Text ℕ} {at to offset : ℕ} {ps ps′ : Pools Text Text} {out out′ : List ℕ} → get ps ≡ es → search text es ≡ none → Ran chunk edits m at ps out out′ offset to ps′
+    intern-fresh : {m : WriteStep Text Text ℕ} {at to offset : ℕ} {ps ps′ : Pools Text Text} {out out′ : List ℕ} → get ps ≡ es → search text es ≡ none → Ran chunk edits m at ps out out′ offset to ps′
         → Ran chunk edits (once true (λ qs. search text (get qs)) m) at ps out out′ offset to ps′
     intern-fresh e h p = ran-once-fresh chunk edits (λ qs. search text (get qs)) (ap (search text) e ∙ h) p
 

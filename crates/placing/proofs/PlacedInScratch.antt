@@ -6,19 +6,19 @@ use Prim.Native.Nat.{ℕ, _-_, _<_}
 use native.Mathlib.Omega.{arith}
 use lib.ListN.{length, take, drop}
 use Rattle.reflection.specs.declared.Text.{Text}
-use Rattle.writing.specs.Step.{Step}
+use Rattle.writing.specs.Step.{WriteStep}
 use Rattle.writing.specs.Layout.{placeOuterName, placeInnerName, placeDefault}
 use Rattle.text_pool.specs.Pool.{Indexed, entries, entryCount}
 use Rattle.placing.specs.Ran.{textOracle, chunkLimit}
 use Rattle.placing.specs.Pooling.{Open, withOuterNames, withInnerNames, withDefaults, NamePlaced, DefaultPlaced}
-use Rattle.placing.specs.Scratch.{outerPool, innerPool, defaultPool, innerStart, defaultsStart, rootTypesStart, poolsIn, Ready}
+use Rattle.placing.specs.Scratch.{outerPool, innerPool, defaultPool, innerStart, defaultsStart, rootTypesStart, poolsIn, PoolsReady}
 use Rattle.placing.specs.InScratch.{outerRoom, innerRoom, defaultRoom, Kept, TextPlaced}
 use Rattle.placing.specs.declared.Spot.{Spot}
 use Rattle.placing.proofs.Runs.{ran-like, ran-past}
 use Rattle.placing.proofs.Regions.{length-region, lent-kept, lent-region}
 use Rattle.placing.proofs.ScratchPools.{ready-outer, pools-outer, ready-inner, pools-inner, ready-defaults, pools-defaults}
 
-module _ {chunk edits s : List ℕ} (ready : Ready chunk edits s) where
+module _ {chunk edits s : List ℕ} (ready : PoolsReady chunk edits s) where
   -- how long each pool is
   pub length-outer : length (outerPool s) ≡ innerStart
   unfolding outerPool
@@ -43,7 +43,7 @@ module _ {chunk edits s : List ℕ} (ready : Ready chunk edits s) where
   defaults-open h = record { indexed = ready .defaults; room = omega (arith, length-defaults, h); short = omega (arith, length-defaults) }
 
   -- past the limit nothing is placed
-  pub placed-past : (step : Step Text Text ℕ) (at : ℕ) (pool : List ℕ → List ℕ) (from to : ℕ) (out : List ℕ) → chunkLimit < at
+  pub placed-past : (step : WriteStep Text Text ℕ) (at : ℕ) (pool : List ℕ → List ℕ) (from to : ℕ) (out : List ℕ) → chunkLimit < at
       → TextPlaced chunk edits step at pool from to s s out out (record { offset = 0; at = at })
   placed-past step at pool from to out past = record {
     ran = λ types tree base n. ran-past chunk edits step (poolsIn s types tree base n) past (omega arith) refl;

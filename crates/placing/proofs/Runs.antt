@@ -8,9 +8,10 @@ use mathlib.Core.Option.{Option, none, some}
 use Prim.Native.Nat.{ℕ, zero, suc, _+_, _<_, _≤_}
 use native.Mathlib.Omega.{arith}
 use lib.ListN.{length, replicate, length-replicate, length-append}
-use Rattle.words.specs.Splice.{Put, put-none, put-then, put-length}
+use Rattle.words.specs.Splice.{Put}
+use Rattle.words.proofs.Splice.{put-none, put-then, put-length}
 use Rattle.reflection.specs.declared.Text.{Text}
-use Rattle.writing.specs.Step.{Cell, Pools, Placed, Step, _>>=_, return, append, remember, pad, paddingAt, wordCells, found, once, rememberIf, unlessEmpty, below, goDown, comeUp}
+use Rattle.writing.specs.Step.{Cell, Pools, Placed, WriteStep, _>>=_, return, append, remember, pad, paddingAt, wordCells, found, once, rememberIf, unlessEmpty, below, goDown, comeUp}
 use Rattle.placing.specs.Ran.{Exact, Over, Ran, chunkLimit, cellBytes}
 use Rattle.placing.specs.Bytes.{joinedBytes}
 use Rattle.placing.proofs.CellBytes.{length-cell-bytes, cell-bytes-append, cell-bytes-none, cell-bytes-words, cell-bytes-padding}
@@ -20,17 +21,17 @@ module _ (chunk edits : List ℕ) where
   put-no-cells : (out : List ℕ) (at : ℕ) → Put out at (cellBytes chunk edits []) out at
   put-no-cells out at = subst (λ bytes. Put out at bytes out at) (sym (cell-bytes-none chunk edits)) (put-none out at)
 
-  exactly : {A : Type 0} {m : Step Text Text A} {at to : ℕ} {ps ps′ : Pools Text Text} {out out′ : List ℕ} {a : A} → Exact chunk edits m at ps out out′ a to ps′
+  exactly : {A : Type 0} {m : WriteStep Text Text A} {at to : ℕ} {ps ps′ : Pools Text Text} {out out′ : List ℕ} {a : A} → Exact chunk edits m at ps out out′ a to ps′
       → Ran chunk edits m at ps out out′ a to ps′
   exactly p = record { known = inl p }
 
   -- past the limit anything is a run that leaves the output as long as it was and the cursor no less
-  pub ran-past : {A : Type 0} (m : Step Text Text A) {at to : ℕ} (ps : Pools Text Text) {ps′ : Pools Text Text} {out out′ : List ℕ} {a : A} → chunkLimit < at → at ≤ to → length out′ ≡ length out
+  pub ran-past : {A : Type 0} (m : WriteStep Text Text A) {at to : ℕ} (ps : Pools Text Text) {ps′ : Pools Text Text} {out out′ : List ℕ} {a : A} → chunkLimit < at → at ≤ to → length out′ ≡ length out
       → Ran chunk edits m at ps out out′ a to ps′
   ran-past m ps past up long = record { known = inr (record { reached = omega arith; defined = omega arith; long = long }) }
 
   -- two steps, the second made from the first one's result
-  pub ran-bind : {A B : Type 0} {m : Step Text Text A} (f : A → Step Text Text B) {at to₁ to₂ : ℕ} {ps ps₁ ps₂ : Pools Text Text} {out out₁ out₂ : List ℕ} {a : A} {b : B}
+  pub ran-bind : {A B : Type 0} {m : WriteStep Text Text A} (f : A → WriteStep Text Text B) {at to₁ to₂ : ℕ} {ps ps₁ ps₂ : Pools Text Text} {out out₁ out₂ : List ℕ} {a : A} {b : B}
       → Ran chunk edits m at ps out out₁ a to₁ ps₁ → Ran chunk edits (f a) to₁ ps₁ out₁ out₂ b to₂ ps₂ → Ran chunk edits (m >>= f) at ps out out₂ b to₂ ps₂
   unfolding _>>=_
   ran-bind {A} {B} {m} f {at} {to₁} {to₂} {ps} {ps₁} {ps₂} {out} {out₁} {out₂} {a} {b} p q = by (p .known) (q .known)
@@ -74,7 +75,7 @@ module _ (chunk edits : List ℕ) where
       by (inr p) (inr q) = record { known = inr (record { reached = q .reached; defined = omega (arith, p .defined, cells-longer); long = q .long ∙ p .long }) }
 
   -- a step that does here what another does
-  ran-same : {A : Type 0} {m n : Step Text Text A} {at to : ℕ} {ps ps′ : Pools Text Text} {out out′ : List ℕ} {a : A} → m at ps ≡ n at ps → Ran chunk edits m at ps out out′ a to ps′
+  ran-same : {A : Type 0} {m n : WriteStep Text Text A} {at to : ℕ} {ps ps′ : Pools Text Text} {out out′ : List ℕ} {a : A} → m at ps ≡ n at ps → Ran chunk edits m at ps out out′ a to ps′
       → Ran chunk edits n at ps out out′ a to ps′
   ran-same {A} {m} {n} {at} {to} {ps} {ps′} {out} {out′} {a} e p = by (p .known)
     where
@@ -126,48 +127,48 @@ module _ (chunk edits : List ℕ) where
       subst (λ b. Ran chunk edits (rememberIf b add offset) at ps out out offset at ps) (sym e) (ran-return offset at ps out)
 
   -- what is empty, and what is not
-  pub ran-empty : (n : ℕ) (m : Step Text Text ℕ) (at : ℕ) (ps : Pools Text Text) (out : List ℕ) → n ≡ 0 → Ran chunk edits (unlessEmpty n m) at ps out out 0 at ps
+  pub ran-empty : (n : ℕ) (m : WriteStep Text Text ℕ) (at : ℕ) (ps : Pools Text Text) (out : List ℕ) → n ≡ 0 → Ran chunk edits (unlessEmpty n m) at ps out out 0 at ps
   unfolding unlessEmpty
   ran-empty n m at ps out e = subst (λ k. Ran chunk edits (unlessEmpty k m) at ps out out 0 at ps) (sym e) (ran-return 0 at ps out)
 
-  pub ran-unless-empty : (n : ℕ) {m : Step Text Text ℕ} {at to offset : ℕ} {ps ps′ : Pools Text Text} {out out′ : List ℕ} → (n ≡ 0 → ⊥) → Ran chunk edits m at ps out out′ offset to ps′
+  pub ran-unless-empty : (n : ℕ) {m : WriteStep Text Text ℕ} {at to offset : ℕ} {ps ps′ : Pools Text Text} {out out′ : List ℕ} → (n ≡ 0 → ⊥) → Ran chunk edits m at ps out out′ offset to ps′
       → Ran chunk edits (unlessEmpty n m) at ps out out′ offset to ps′
   unfolding unlessEmpty
   ran-unless-empty zero h p = absurd (h refl)
   ran-unless-empty (suc n) h p = p
 
   -- what a pool has, and what it has not
-  ran-found : (looked : Option ℕ) (m : Step Text Text ℕ) (offset at : ℕ) (ps : Pools Text Text) (out : List ℕ) → looked ≡ some offset
+  ran-found : (looked : Option ℕ) (m : WriteStep Text Text ℕ) (offset at : ℕ) (ps : Pools Text Text) (out : List ℕ) → looked ≡ some offset
       → Ran chunk edits (found looked m) at ps out out offset at ps
   ran-found looked m offset at ps out e =
       subst (λ x. Ran chunk edits (found x m) at ps out out offset at ps) (sym e) (exactly (record { answered = refl; put = put-no-cells out at; pools-left = refl }))
 
-  ran-absent : (looked : Option ℕ) {m : Step Text Text ℕ} {at to offset : ℕ} {ps ps′ : Pools Text Text} {out out′ : List ℕ} → looked ≡ none → Ran chunk edits m at ps out out′ offset to ps′
+  ran-absent : (looked : Option ℕ) {m : WriteStep Text Text ℕ} {at to offset : ℕ} {ps ps′ : Pools Text Text} {out out′ : List ℕ} → looked ≡ none → Ran chunk edits m at ps out out′ offset to ps′
       → Ran chunk edits (found looked m) at ps out out′ offset to ps′
   ran-absent looked {m} {at} {to} {offset} {ps} {ps′} {out} {out′} e p =
       subst (λ x. Ran chunk edits (found x m) at ps out out′ offset to ps′) (sym e) (ran-same refl p)
 
-  pub ran-once-found : (look : Pools Text Text → Option ℕ) (m : Step Text Text ℕ) (offset at : ℕ) (ps : Pools Text Text) (out : List ℕ) → look ps ≡ some offset
+  pub ran-once-found : (look : Pools Text Text → Option ℕ) (m : WriteStep Text Text ℕ) (offset at : ℕ) (ps : Pools Text Text) (out : List ℕ) → look ps ≡ some offset
       → Ran chunk edits (once true look m) at ps out out offset at ps
   unfolding once
   ran-once-found look m offset at ps out e =
       ran-same refl (ran-found (look ps) m offset at ps out e)
 
-  pub ran-once-fresh : (look : Pools Text Text → Option ℕ) {m : Step Text Text ℕ} {at to offset : ℕ} {ps ps′ : Pools Text Text} {out out′ : List ℕ} → look ps ≡ none
+  pub ran-once-fresh : (look : Pools Text Text → Option ℕ) {m : WriteStep Text Text ℕ} {at to offset : ℕ} {ps ps′ : Pools Text Text} {out out′ : List ℕ} → look ps ≡ none
       → Ran chunk edits m at ps out out′ offset to ps′ → Ran chunk edits (once true look m) at ps out out′ offset to ps′
   unfolding once
   ran-once-fresh look {ps = ps} e q =
       ran-same refl (ran-absent (look ps) e q)
 
   -- where nothing is shared
-  pub ran-once-unshared : (shared : Bool) (look : Pools Text Text → Option ℕ) {m : Step Text Text ℕ} {at to offset : ℕ} {ps ps′ : Pools Text Text} {out out′ : List ℕ} → shared ≡ false
+  pub ran-once-unshared : (shared : Bool) (look : Pools Text Text → Option ℕ) {m : WriteStep Text Text ℕ} {at to offset : ℕ} {ps ps′ : Pools Text Text} {out out′ : List ℕ} → shared ≡ false
       → Ran chunk edits m at ps out out′ offset to ps′ → Ran chunk edits (once shared look m) at ps out out′ offset to ps′
   unfolding once
   ran-once-unshared shared look {m} {at} {to} {offset} {ps} {ps′} {out} {out′} e p =
       subst (λ b. Ran chunk edits (once b look m) at ps out out′ offset to ps′) (sym e) (ran-same refl p)
 
   -- a member's type
-  pub ran-below : {A : Type 0} {m : Step Text Text A} {at to : ℕ} {ps ps′ : Pools Text Text} {out out′ : List ℕ} {a : A} → Ran chunk edits m at (goDown ps) out out′ a to ps′
+  pub ran-below : {A : Type 0} {m : WriteStep Text Text A} {at to : ℕ} {ps ps′ : Pools Text Text} {out out′ : List ℕ} {a : A} → Ran chunk edits m at (goDown ps) out out′ a to ps′
       → Ran chunk edits (below m) at ps out out′ a to (comeUp (ps .types) ps′)
   unfolding below
   ran-below {A} {m} {at} {to} {ps} {ps′} {out} {out′} {a} p = by (p .known)
@@ -177,22 +178,22 @@ module _ (chunk edits : List ℕ) where
       by (inr p) = record { known = inr (record { reached = p .reached; defined = p .defined; long = p .long }) }
 
   -- the same run from equal pools to equal pools, with an equal result
-  pub ran-like : {A : Type 0} {m : Step Text Text A} {at to : ℕ} {ps qs ps′ qs′ : Pools Text Text} {out out′ : List ℕ} {a b : A} → ps ≡ qs → ps′ ≡ qs′ → a ≡ b
+  pub ran-like : {A : Type 0} {m : WriteStep Text Text A} {at to : ℕ} {ps qs ps′ qs′ : Pools Text Text} {out out′ : List ℕ} {a b : A} → ps ≡ qs → ps′ ≡ qs′ → a ≡ b
       → Ran chunk edits m at ps out out′ a to ps′ → Ran chunk edits m at qs out out′ b to qs′
   ran-like {A} {m} {at} {to} {ps} {qs} {ps′} {qs′} {out} {out′} {a} {b} before after same p =
       subst (λ x. Ran chunk edits m at qs out out′ x to qs′) same
       (subst (λ x. Ran chunk edits m at qs out out′ a to x) after (subst (λ x. Ran chunk edits m at x out out′ a to ps′) before p))
 
   -- the same run of an equal step, and where the cursors and outputs are equal
-  pub ran-step : {A : Type 0} {m n : Step Text Text A} {at to : ℕ} {ps ps′ : Pools Text Text} {out out′ : List ℕ} {a : A} → m ≡ n
+  pub ran-step : {A : Type 0} {m n : WriteStep Text Text A} {at to : ℕ} {ps ps′ : Pools Text Text} {out out′ : List ℕ} {a : A} → m ≡ n
       → Ran chunk edits m at ps out out′ a to ps′ → Ran chunk edits n at ps out out′ a to ps′
   ran-step {A} {m} {n} {at} {to} {ps} {ps′} {out} {out′} {a} e p = subst (λ x. Ran chunk edits x at ps out out′ a to ps′) e p
 
-  pub ran-to : {A : Type 0} {m : Step Text Text A} {at to to′ : ℕ} {ps ps′ : Pools Text Text} {out out′ out″ : List ℕ} {a : A} → to ≡ to′ → out′ ≡ out″
+  pub ran-to : {A : Type 0} {m : WriteStep Text Text A} {at to to′ : ℕ} {ps ps′ : Pools Text Text} {out out′ out″ : List ℕ} {a : A} → to ≡ to′ → out′ ≡ out″
       → Ran chunk edits m at ps out out′ a to ps′ → Ran chunk edits m at ps out out″ a to′ ps′
   ran-to {A} {m} {at} {to} {to′} {ps} {ps′} {out} {out′} {out″} {a} e h p =
       subst (λ x. Ran chunk edits m at ps out out″ a x ps′) e (subst (λ x. Ran chunk edits m at ps out x a to ps′) h p)
 
 -- A run keeps the output's length.
-pub ran-long : {chunk edits : List ℕ} {A : Type 0} {step : Step Text Text A} {at to : ℕ} {ps ps′ : Pools Text Text} {out out′ : List ℕ} {a : A} → Ran chunk edits step at ps out out′ a to ps′ → length out′ ≡ length out
+pub ran-long : {chunk edits : List ℕ} {A : Type 0} {step : WriteStep Text Text A} {at to : ℕ} {ps ps′ : Pools Text Text} {out out′ : List ℕ} {a : A} → Ran chunk edits step at ps out out′ a to ps′ → length out′ ≡ length out
 ran-long ran = ⊎-elim (λ p. put-length (p .put)) (λ p. p .long) (ran .known)

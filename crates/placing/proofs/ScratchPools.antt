@@ -10,7 +10,7 @@ use Rattle.reflection.specs.Reflection.{TypeDesc}
 use Rattle.writing.specs.Step.{pools}
 use Rattle.text_pool.specs.Pool.{Indexed, entries}
 use Rattle.placing.specs.Pooling.{withOuterNames, withInnerNames, withDefaults}
-use Rattle.placing.specs.Scratch.{sharedWidth, outerPool, innerPool, defaultPool, innerStart, defaultsStart, rootTypesStart, memberTypesStart, scratchSize, typesFrom, poolsIn, Ready}
+use Rattle.placing.specs.Scratch.{sharedWidth, outerPool, innerPool, defaultPool, innerStart, defaultsStart, rootTypesStart, memberTypesStart, scratchSize, typesFrom, poolsIn, PoolsReady}
 use Rattle.placing.specs.InScratch.{Kept}
 use Rattle.placing.proofs.Regions.{region-kept-before, region-kept-after, types-kept-before, types-kept-after}
 
@@ -62,10 +62,10 @@ module _ (s s′ : List ℕ) (types : List (TypeDesc Text × ℕ)) (tree : ℕ �
   unfolding poolsIn
   pools-defaults-agree outer inner members = λ i. pools (entries (outer i)) (entries (inner i)) types (members i) (entries (defaultPool s′))
 
-module _ {chunk edits s s′ : List ℕ} (ready : Ready chunk edits s) where
+module _ {chunk edits s s′ : List ℕ} (ready : PoolsReady chunk edits s) where
   -- the pool of names of bindings and buffers changed
   module _ (kept : Kept 0 innerStart s s′) where
-    pub ready-outer : Indexed chunk edits (outerPool s′) → Ready chunk edits s′
+    pub ready-outer : Indexed chunk edits (outerPool s′) → PoolsReady chunk edits s′
     ready-outer indexed = record {
       long = length-kept kept (ready .long);
       outer = indexed;
@@ -81,7 +81,7 @@ module _ {chunk edits s s′ : List ℕ} (ready : Ready chunk edits s) where
 
   -- the pool of all other names changed
   module _ (kept : Kept innerStart defaultsStart s s′) where
-    pub ready-inner : Indexed chunk edits (innerPool s′) → Ready chunk edits s′
+    pub ready-inner : Indexed chunk edits (innerPool s′) → PoolsReady chunk edits s′
     ready-inner indexed = record {
       long = length-kept kept (ready .long);
       outer = subst (Indexed chunk edits) (sym (outer-kept-before kept (ready .long) (omega arith))) (ready .outer);
@@ -97,7 +97,7 @@ module _ {chunk edits s s′ : List ℕ} (ready : Ready chunk edits s) where
 
   -- the pool of defaults changed
   module _ (kept : Kept defaultsStart rootTypesStart s s′) where
-    pub ready-defaults : Indexed chunk edits (defaultPool s′) → Ready chunk edits s′
+    pub ready-defaults : Indexed chunk edits (defaultPool s′) → PoolsReady chunk edits s′
     ready-defaults indexed = record {
       long = length-kept kept (ready .long);
       outer = subst (Indexed chunk edits) (sym (outer-kept-before kept (ready .long) (omega arith))) (ready .outer);
@@ -113,7 +113,7 @@ module _ {chunk edits s s′ : List ℕ} (ready : Ready chunk edits s) where
 
   -- what lies behind the pools of texts changed
   module _ {from to : ℕ} (kept : Kept from to s s′) (behind : rootTypesStart ≤ from) where
-    pub ready-kept : Ready chunk edits s′
+    pub ready-kept : PoolsReady chunk edits s′
     ready-kept = record {
       long = length-kept kept (ready .long);
       outer = subst (Indexed chunk edits) (sym (outer-kept-before kept (ready .long) (omega arith))) (ready .outer);

@@ -1,3 +1,4 @@
+-- Vocabulary of internal contracts: no contract of an exported function and no demand cites it.
 -- What placing a name or a default does to the scratch: the pool that it is looked up in changes, and no word outside that pool's region.
 use mathlib.Core.Path.{_≡_}
 use mathlib.Core.List.{List}
@@ -5,11 +6,11 @@ use Prim.Native.Nat.{ℕ, _+_, _-_, _/_, _≤_, _<_}
 use lib.ListN.{length, getD}
 use Rattle.reflection.specs.declared.Text.{Text}
 use Rattle.reflection.specs.Reflection.{TypeDesc}
-use Rattle.writing.specs.Step.{Step}
+use Rattle.writing.specs.Step.{WriteStep}
 use Rattle.text_pool.specs.Pool.{entriesStart, entryWidth, entryCount}
 use Rattle.placing.specs.Ran.{Ran}
 use Rattle.placing.specs.Pooling.{placedLimit}
-use Rattle.placing.specs.Scratch.{outerSize, innerSize, defaultsSize, Ready, poolsIn}
+use Rattle.placing.specs.Scratch.{outerSize, innerSize, defaultsSize, PoolsReady, poolsIn}
 use Rattle.placing.specs.declared.Spot.{Spot}
 
 -- How many entries a pool of so many words has room for: 1,433, 8,396 and 2,252 (docs/ROOM.md).
@@ -32,10 +33,10 @@ pub record Kept (from to : ℕ) (s s′ : List ℕ) : Type 0 where
   pub after : (i : ℕ) → to ≤ i → getD s′ i 0 ≡ getD s i 0
 
 -- A step that places a text ran from the pools in the scratch to those that are there now. The pool that it is looked up in is `pool`, its region from..to.
-pub record TextPlaced (chunk edits : List ℕ) (step : Step Text Text ℕ) (at : ℕ) (pool : List ℕ → List ℕ) (from to : ℕ) (s s′ out out′ : List ℕ) (r : Spot) : Type 0 where
+pub record TextPlaced (chunk edits : List ℕ) (step : WriteStep Text Text ℕ) (at : ℕ) (pool : List ℕ → List ℕ) (from to : ℕ) (s s′ out out′ : List ℕ) (r : Spot) : Type 0 where
   pub ran : (types : List (TypeDesc Text × ℕ)) (tree : ℕ → TypeDesc Text) (base n : ℕ)
       → Ran chunk edits step at (poolsIn s types tree base n) out out′ (r .offset) (r .at) (poolsIn s′ types tree base n)
-  pub ready : Ready chunk edits s′
+  pub ready : PoolsReady chunk edits s′
   pub kept : Kept from to s s′
   pub count-low : entryCount (pool s) ≤ entryCount (pool s′)
   pub count-high : entryCount (pool s′) ≤ entryCount (pool s) + 1

@@ -1,3 +1,4 @@
+-- Vocabulary of internal contracts: no contract of an exported function and no demand cites it.
 -- What placing a name or a default does to the pool that it is looked up in and to the output.
 use mathlib.Core.Path.{_≡_}
 use mathlib.Core.List.{List}

@@ -1,3 +1,4 @@
+-- Vocabulary of internal contracts: no contract of an exported function and no demand cites it.
 -- The writer's scratch, region by region, and the pools that stand in it (docs/ROOM.md). Three pools of texts come first (crate text_pool): names of bindings
 -- and buffers, all other names, defaults. Then the types of variables and the types of members that may be shared, an entry each: the type's node, its
 -- offset. Then the words of members' records while a type is written, the offsets of variables, of buffers and of bindings' names.
@@ -91,7 +92,7 @@ poolsIn s types tree base n =
     pools (entries (outerPool s)) (entries (innerPool s)) types (typesFrom tree memberTypesStart s base n) (entries (defaultPool s))
 
 -- The scratch is long enough, and its three pools of texts are in order.
-pub record Ready (chunk edits s : List ℕ) : Type 0 where
+pub record PoolsReady (chunk edits s : List ℕ) : Type 0 where
   pub long : scratchSize ≤ length s
   pub outer : Indexed chunk edits (outerPool s)
   pub inner : Indexed chunk edits (innerPool s)

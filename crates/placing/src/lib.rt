@@ -5,14 +5,14 @@ ghost use Prim.Native.Nat.{_+_, _≤_, _<_, _^_};
 ghost use lib.ListN.{length, replicate};
 ghost use Rattle.words.specs.Words.{wordBytes};
 ghost use Rattle.words.specs.Splice.{Put, splice};
-ghost use Rattle.emit.specs.Written.{farthest};
+ghost use Rattle.emit.specs.Cursor.{farthest};
 ghost use Rattle.writing.specs.Step.{paddingAt};
 ghost use Rattle.writing.specs.Layout.{placeOuterName, placeInnerName, placeDefault};
 ghost use Rattle.text_pool.specs.Pool.{entryCount};
 ghost use Rattle.placing.specs.Ran.{textOracle};
 ghost use Rattle.placing.specs.Bytes.{joinedBytes};
 ghost use Rattle.placing.specs.Pooling.{Short, Open, farthestOffset, NamePlaced, DefaultPlaced};
-ghost use Rattle.placing.specs.Scratch.{innerStart, defaultsStart, rootTypesStart, outerPool, innerPool, defaultPool, Ready};
+ghost use Rattle.placing.specs.Scratch.{innerStart, defaultsStart, rootTypesStart, outerPool, innerPool, defaultPool, PoolsReady};
 ghost use Rattle.placing.specs.InScratch.{outerRoom, innerRoom, defaultRoom, TextPlaced};
 use reflection::CHUNK_LIMIT;
 use reflection::Text;
@@ -196,7 +196,7 @@ pub fn place_outer_name<'a>(
     at: usize,
 ) -> Spot
     requires { ⌜ Short (now chunk) (now edits) ⌝ }
-    requires { ⌜ Ready (now chunk) (now edits) (now s) ⌝ }
+    requires { ⌜ PoolsReady (now chunk) (now edits) (now s) ⌝ }
     requires { ⌜ entryCount (outerPool (now s)) < outerRoom ⌝ }
     requires { ⌜ at ≤ farthestOffset ⌝ }
     ensures { λ r. ⌜ TextPlaced (now (chunk .entry)) (now (edits .entry)) (placeOuterName (textOracle (now (chunk .entry)) (now (edits .entry))) name) at outerPool 0 innerStart (now (s .entry)) (now (s .exit)) (now (out .entry)) (now (out .exit)) r ⌝ }
@@ -217,7 +217,7 @@ pub fn place_inner_name<'a>(
     at: usize,
 ) -> Spot
     requires { ⌜ Short (now chunk) (now edits) ⌝ }
-    requires { ⌜ Ready (now chunk) (now edits) (now s) ⌝ }
+    requires { ⌜ PoolsReady (now chunk) (now edits) (now s) ⌝ }
     requires { ⌜ entryCount (innerPool (now s)) < innerRoom ⌝ }
     requires { ⌜ at ≤ farthestOffset ⌝ }
     ensures { λ r. ⌜ TextPlaced (now (chunk .entry)) (now (edits .entry)) (placeInnerName (textOracle (now (chunk .entry)) (now (edits .entry))) name) at innerPool innerStart defaultsStart (now (s .entry)) (now (s .exit)) (now (out .entry)) (now (out .exit)) r ⌝ }
@@ -245,7 +245,7 @@ pub fn place_scratch_default<'a>(
     at: usize,
 ) -> Spot
     requires { ⌜ Short (now chunk) (now edits) ⌝ }
-    requires { ⌜ Ready (now chunk) (now edits) (now s) ⌝ }
+    requires { ⌜ PoolsReady (now chunk) (now edits) (now s) ⌝ }
     requires { ⌜ entryCount (defaultPool (now s)) < defaultRoom ⌝ }
     requires { ⌜ at ≤ farthestOffset ⌝ }
     ensures { λ r. ⌜ TextPlaced (now (chunk .entry)) (now (edits .entry)) (placeDefault (textOracle (now (chunk .entry)) (now (edits .entry))) default) at defaultPool defaultsStart rootTypesStart (now (s .entry)) (now (s .exit)) (now (out .entry)) (now (out .exit)) r ⌝ }

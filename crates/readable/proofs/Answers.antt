@@ -6,10 +6,10 @@ use Prim.Native.Nat.{ℕ}
 use lib.ListN.{length}
 use Rattle.reflection.specs.declared.ResourceDef.{ResourceDef as Header}
 use Rattle.reflection.specs.Reflection.{isSm5, isWide}
-use Rattle.reflection.specs.Decode.{rd11From}
+use Rattle.reflection.specs.Decode.{rd11FromHeader}
 use Rattle.reflection.specs.Contents.{Bytes}
 use Rattle.readable.specs.Readable.{readable}
-use Rattle.readable.specs.Checks.{countsHeld, headerHeld, bindingsHeld, buffersHeld, variablesHeld, recordsHeld}
+use Rattle.readable.specs.Checks.{countsChecked, headerChecked, bindingsChecked, buffersChecked, variablesChecked, recordsChecked}
 use Rattle.readable.proofs.Split.{readable-split}
 
 module _ (chunk edits : Bytes) (h : Header) (bindings buffers variables types : List ℕ) where
@@ -17,25 +17,25 @@ module _ (chunk edits : Bytes) (h : Header) (bindings buffers variables types : 
   whole = readable chunk edits h bindings buffers variables types
 
   abbrev counts : Bool
-  counts = countsHeld h (length bindings) (length buffers) (length variables) (length types)
+  counts = countsChecked h (length bindings) (length buffers) (length variables) (length types)
 
   abbrev of-bindings : Bool
-  of-bindings = bindingsHeld chunk edits (isWide (rd11From h)) bindings 0 (h .«binding_count»)
+  of-bindings = bindingsChecked chunk edits (isWide (rd11FromHeader h)) bindings 0 (h .«binding_count»)
 
   abbrev of-buffers : Bool
-  of-buffers = buffersHeld chunk edits buffers 0 (h .«buffer_count») (h .«variable_count»)
+  of-buffers = buffersChecked chunk edits buffers 0 (h .«buffer_count») (h .«variable_count»)
 
   abbrev of-variables : Bool
-  of-variables = variablesHeld chunk edits (isSm5 (rd11From h)) variables types 0 (h .«variable_count») 0 (h .«type_count»)
+  of-variables = variablesChecked chunk edits (isSm5 (rd11FromHeader h)) variables types 0 (h .«variable_count») 0 (h .«type_count»)
 
-  all-parts : whole ≡ (headerHeld chunk edits h && (counts && (of-bindings && (of-buffers && of-variables))))
-  unfolding recordsHeld
+  all-parts : whole ≡ (headerChecked chunk edits h && (counts && (of-bindings && (of-buffers && of-variables))))
+  unfolding recordsChecked
   all-parts = readable-split chunk edits h bindings buffers variables types
 
-  pub header-fails : headerHeld chunk edits h ≡ false → whole ≡ false
+  pub header-fails : headerChecked chunk edits h ≡ false → whole ≡ false
   header-fails e = all-parts ∙ (λ i. e i && (counts && (of-bindings && (of-buffers && of-variables))))
 
-  module _ (header : headerHeld chunk edits h ≡ true) where
+  module _ (header : headerChecked chunk edits h ≡ true) where
     pub counts-fail : counts ≡ false → whole ≡ false
     counts-fail e = all-parts ∙ (λ i. header i && (e i && (of-bindings && (of-buffers && of-variables))))
 

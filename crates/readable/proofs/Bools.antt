@@ -6,9 +6,9 @@ use mathlib.Core.Option.{Option, none, some}
 use native.Mathlib.Omega.{arith}
 use Prim.Native.Nat.{ℕ}
 use Rattle.reflection.specs.Nodes.{_>>=_}
-use Rattle.reflection.specs.Decode.{check}
+use Rattle.reflection.specs.Decode.{guard}
 use Rattle.readable.specs.Readable.{every}
-use Rattle.readable.specs.Checks.{holds}
+use Rattle.readable.specs.Checks.{passes}
 
 pub and-swap : (a b c : Bool) → (a && (b && c)) ≡ (b && (a && c))
 and-swap true b c = refl
@@ -19,22 +19,22 @@ and-swap false false c = refl
 pub ruleset tests-in-order = (and-assoc, and-comm, and-swap)
 
 module _ {A : Type 0} where
-  pub holds-check : (k : A → Bool) (b : Bool) (f : Unit {0} → Option A) → holds k (check b >>= f) ≡ (b && holds k (f tt))
-  unfolding check _>>=_
+  pub holds-check : (k : A → Bool) (b : Bool) (f : Unit {0} → Option A) → passes k (guard b >>= f) ≡ (b && passes k (f tt))
+  unfolding guard _>>=_
   holds-check k true f = refl
   holds-check k false f = refl
 
-  pub holds-and : (b : Bool) (k : A → Bool) (m : Option A) → holds (λ a. b && k a) m ≡ (b && holds k m)
+  pub holds-and : (b : Bool) (k : A → Bool) (m : Option A) → passes (λ a. b && k a) m ≡ (b && passes k m)
   holds-and true k none = refl
   holds-and false k none = refl
   holds-and b k (some a) = refl
 
-  pub holds-same : (k l : A → Bool) (m : Option A) → ((a : A) → m ≡ some a → k a ≡ l a) → holds k m ≡ holds l m
+  pub holds-same : (k l : A → Bool) (m : Option A) → ((a : A) → m ≡ some a → k a ≡ l a) → passes k m ≡ passes l m
   holds-same k l none e = refl
   holds-same k l (some a) e = e a refl
 
 module _ {A B : Type 0} where
-  pub holds-then : (k : B → Bool) (m : Option A) (f : A → Option B) → holds k (m >>= f) ≡ holds (λ a. holds k (f a)) m
+  pub holds-then : (k : B → Bool) (m : Option A) (f : A → Option B) → passes k (m >>= f) ≡ passes (λ a. passes k (f a)) m
   unfolding _>>=_
   holds-then k none f = refl
   holds-then k (some a) f = refl
@@ -52,14 +52,14 @@ module _ {A B : Type 0} where
 
 -- A test that holds whatever step gives something, and its test.
 pub check-first : {A B : Type 0} (b : Bool) (m : Option A) (k : A → Bool) (g : A → B)
-    → (check b >>= λ _. (m >>= λ a. check (k a) >>= λ _. some (g a))) ≡ (m >>= λ a. check (b && k a) >>= λ _. some (g a))
-unfolding check _>>=_
+    → (guard b >>= λ _. (m >>= λ a. guard (k a) >>= λ _. some (g a))) ≡ (m >>= λ a. guard (b && k a) >>= λ _. some (g a))
+unfolding guard _>>=_
 check-first true m k g = refl
 check-first false none k g = refl
 check-first false (some a) k g = refl
 
-pub check-then : {A B : Type 0} (b : Bool) (a : A) (f : A → Option B) → ((check b >>= λ _. some a) >>= f) ≡ (check b >>= λ _. f a)
-unfolding check _>>=_
+pub check-then : {A B : Type 0} (b : Bool) (a : A) (f : A → Option B) → ((guard b >>= λ _. some a) >>= f) ≡ (guard b >>= λ _. f a)
+unfolding guard _>>=_
 check-then true a f = refl
 check-then false a f = refl
 
@@ -84,8 +84,8 @@ module _ {A : Type 0} (test : A → Bool) where
   every-both other [] = refl
   every-both other (x ∷ xs) = rw (← (every-both other xs)) (simp tests-in-order)
 
-pub check-was : {B : Type 0} (b : Bool) (f : Unit {0} → Option B) (x : B) → (check b >>= f) ≡ some x → (b ≡ true) × (f tt ≡ some x)
-unfolding check _>>=_
+pub check-was : {B : Type 0} (b : Bool) (f : Unit {0} → Option B) (x : B) → (guard b >>= f) ≡ some x → (b ≡ true) × (f tt ≡ some x)
+unfolding guard _>>=_
 check-was true f x e = (refl, e)
 check-was false f x e = absurd (let apart : _≡_ {A = ℕ} 0 1 = cc in omega arith)
 

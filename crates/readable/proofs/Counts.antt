@@ -10,9 +10,9 @@ use Rattle.reflection.specs.declared.Text.{Text}
 use Rattle.reflection.specs.declared.CBufferDef.{CBufferDef as BufferRecord}
 use Rattle.reflection.specs.declared.CBufferVariable.{CBufferVariable as VariableRecord}
 use Rattle.reflection.specs.Reflection.{TypeDesc, typeDesc, Members, noMember, member, CBufferVariable, CBufferDef, mapType, mapMembers, mapVariable, mapBuffer}
-use Rattle.reflection.specs.Nodes.{Node, Built, nodesOf, nodesOfMembers, membersFrom, typeFrom, typeLevels}
+use Rattle.reflection.specs.Nodes.{Node, Built, nodesOf, nodesOfMembers, membersFromNodes, typeFromNodes, typeLevels}
 use Rattle.reflection.specs.Tables.{allVariables}
-use Rattle.reflection.specs.Decode.{recordsFrom, variableFrom, bufferFrom, variablesFrom, buffersFrom}
+use Rattle.reflection.specs.Decode.{recordsFrom, variableFromTable, bufferFromTable, variablesFrom, buffersFrom}
 use Rattle.readable.specs.Readable.{nodeCount}
 use Rattle.readable.proofs.Bools.{then-was, check-was}
 
@@ -40,14 +40,14 @@ module _ {N : Type 0} where
       let same : (member mn mo t (others .0), others .1) ≡ ms = cc in
       omega (arith, ap afterMembers same, length-append (nodesOf mn mo t) (nodesOfMembers (others .0)))
 
-  members-used : (levels : ℕ) → ((n : N) (o : ℕ) (xs : List (Node N)) (t : Built N) → typeFrom levels xs ≡ some t → length xs ≡ afterType n o t)
-      → (n : ℕ) (xs : List (Node N)) (ms : Members N × List (Node N)) → membersFrom (typeFrom levels) n xs ≡ some ms → length xs ≡ afterMembers ms
-  unfolding membersFrom
+  members-used : (levels : ℕ) → ((n : N) (o : ℕ) (xs : List (Node N)) (t : Built N) → typeFromNodes levels xs ≡ some t → length xs ≡ afterType n o t)
+      → (n : ℕ) (xs : List (Node N)) (ms : Members N × List (Node N)) → membersFromNodes (typeFromNodes levels) n xs ≡ some ms → length xs ≡ afterMembers ms
+  unfolding membersFromNodes
   members-used levels used zero xs ms e = no-member xs ms e
   members-used levels used (suc n) xs ms e =
-      let first = then-was (typeFrom levels xs) _ ms e in
+      let first = then-was (typeFromNodes levels xs) _ ms e in
       let t = first .0 in
-      let others = then-was (membersFrom (typeFrom levels) n (t .left)) _ ms (first .2) in
+      let others = then-was (membersFromNodes (typeFromNodes levels) n (t .left)) _ ms (first .2) in
       one-member (t .member-name) (t .member-offset) (t .type) (length xs) (length (t .left)) (others .0) ms (others .2)
       (used (t .member-name) (t .member-offset) xs t (first .1)) (members-used levels used n (t .left) (others .0) (others .1))
 
@@ -59,12 +59,12 @@ module _ {N : Type 0} where
       let same : record { type = typeDesc (x .numbers) (x .name) (ms .0); member-name = x .member-name; member-offset = x .member-offset; left = ms .1 } ≡ t = cc in
       omega (arith, ap (afterType n o) same)
 
-  pub type-used : (levels : ℕ) (n : N) (o : ℕ) (xs : List (Node N)) (t : Built N) → typeFrom levels xs ≡ some t → length xs ≡ afterType n o t
-  unfolding typeFrom
+  pub type-used : (levels : ℕ) (n : N) (o : ℕ) (xs : List (Node N)) (t : Built N) → typeFromNodes levels xs ≡ some t → length xs ≡ afterType n o t
+  unfolding typeFromNodes
   type-used zero n o xs t e = absurd (let apart : _≡_ {A = ℕ} 0 1 = cc in omega arith)
   type-used (suc levels) n o [] t e = absurd (let apart : _≡_ {A = ℕ} 0 1 = cc in omega arith)
   type-used (suc levels) n o (x ∷ xs) t e =
-      let below = then-was (membersFrom (typeFrom levels) (x .member-count) xs) _ t e in
+      let below = then-was (membersFromNodes (typeFromNodes levels) (x .member-count) xs) _ t e in
       one-type n o x (length xs) (below .0) t (below .2) (members-used levels (type-used levels) (x .member-count) xs (below .0) (below .1))
 
 -- The variables that are built use all nodes, and are as many as their records.
@@ -77,10 +77,10 @@ unfolding nodeCount
 no-variable typed e = let same : [] ≡ typed = cc in record { variables = ap length (sym same); nodes = ap nodeCount (sym same) }
 
 one-variable : (v : VariableRecord) (t : Built Text) (vs : List VariableRecord) (xs : List (Node Text)) (others typed : List (CBufferVariable Text Text))
-    → some (variableFrom v (t .type) ∷ others) ≡ some typed → length xs ≡ afterType (v .name) 0 t → AllUsed vs (t .left) others → AllUsed (v ∷ vs) xs typed
-unfolding nodeCount variableFrom
+    → some (variableFromTable v (t .type) ∷ others) ≡ some typed → length xs ≡ afterType (v .name) 0 t → AllUsed vs (t .left) others → AllUsed (v ∷ vs) xs typed
+unfolding nodeCount variableFromTable
 one-variable v t vs xs others typed e own rest =
-    let same : variableFrom v (t .type) ∷ others ≡ typed = cc in
+    let same : variableFromTable v (t .type) ∷ others ≡ typed = cc in
     record { variables = omega (arith, ap length same, rest .variables); nodes = omega (arith, ap nodeCount same, rest .nodes) }
 
 pub variables-used : (vs : List VariableRecord) (xs : List (Node Text)) (typed : List (CBufferVariable Text Text)) → variablesFrom vs xs ≡ some typed → AllUsed vs xs typed
@@ -88,7 +88,7 @@ unfolding variablesFrom
 variables-used [] [] typed e = no-variable typed e
 variables-used [] (x ∷ xs) typed e = absurd (let apart : _≡_ {A = ℕ} 0 1 = cc in omega arith)
 variables-used (v ∷ vs) xs typed e =
-    let first = then-was (typeFrom typeLevels xs) _ typed e in
+    let first = then-was (typeFromNodes typeLevels xs) _ typed e in
     let t = first .0 in
     let others = then-was (variablesFrom vs (t .left)) _ typed (first .2) in
     one-variable v t vs xs (others .0) typed (others .2) (type-used typeLevels (v .name) 0 xs t (first .1)) (variables-used vs (t .left) (others .0) (others .1))
@@ -103,10 +103,10 @@ unfolding allVariables
 no-buffer bs e = let same : [] ≡ bs = cc in record { buffers = ap length (sym same); variables = ap allVariables (sym same) }
 
 one-buffer : (c : BufferRecord) (cs : List BufferRecord) (vs : List (CBufferVariable Text Text)) (others bs : List (CBufferDef Text Text))
-    → some (bufferFrom c (take (c .«variable_count») vs) ∷ others) ≡ some bs → AllTaken cs (drop (c .«variable_count») vs) others → AllTaken (c ∷ cs) vs bs
-unfolding allVariables bufferFrom
+    → some (bufferFromTable c (take (c .«variable_count») vs) ∷ others) ≡ some bs → AllTaken cs (drop (c .«variable_count») vs) others → AllTaken (c ∷ cs) vs bs
+unfolding allVariables bufferFromTable
 one-buffer c cs vs others bs e rest =
-    let same : bufferFrom c (take (c .«variable_count») vs) ∷ others ≡ bs = cc in
+    let same : bufferFromTable c (take (c .«variable_count») vs) ∷ others ≡ bs = cc in
     record {
       buffers = ap length (sym same) ∙ ap suc (rest .buffers);
       variables = ap allVariables (sym same) ∙ ap (λ ws. take (c .«variable_count») vs ++ ws) (rest .variables) ∙ take-append-drop (c .«variable_count») vs;

@@ -9,7 +9,7 @@ use Rattle.text.specs.declared.Found.the-variants.{At, Bad}
 use Rattle.reflection.specs.declared.Text.{Text}
 use Rattle.reflection.specs.Outcome.{Outcome, ok, refused}
 use Rattle.reflection.specs.Texts.{inChunk}
-use Rattle.reading.specs.Step.{Room, room, Step, andThen, oneLess, _>>=_, return, refuse, check, textOr, takeBinding, takeBuffer, takeVariable, takeType}
+use Rattle.reading.specs.Step.{Room, room, ReadStep, andThen, oneLess, _>>=_, return, refuse, check, textOr, takeBinding, takeBuffer, takeVariable, takeType}
 use Rattle.reading.specs.Read.{readMany, withoutRoom}
 
 -- What holds of a result and the room left; of a refusal nothing.
@@ -27,7 +27,7 @@ pub record Spent (b f v t : ℕ) (r r′ : Room) : Type 0 where
 pub none-spent : (r : Room) → Spent 0 0 0 0 r r
 none-spent r = record { bindings = omega arith; buffers = omega arith; variables = omega arith; types = omega arith }
 
-pub then-leaves : {A B : Type 0} (Q : A → Room → Type 0) (P : B → Room → Type 0) (m : Step A) (f : A → Step B) (r : Room)
+pub then-leaves : {A B : Type 0} (Q : A → Room → Type 0) (P : B → Room → Type 0) (m : ReadStep A) (f : A → ReadStep B) (r : Room)
     → Leaves Q (m r) → ((x : A) (r′ : Room) → Q x r′ → Leaves P (f x r′)) → Leaves P ((m >>= f) r)
 unfolding _>>=_
 then-leaves {A} {B} Q P m f r h g = go (m r) h
@@ -37,17 +37,17 @@ then-leaves {A} {B} Q P m f r h g = go (m r) h
     go (refused e) q = tt
 
 module _ {B : Type 0} (P : B → Room → Type 0) where
-  pub check-leaves : (test : Bool) (n : ℕ) (f : Unit {0} → Step B) (r : Room) → (test ≡ true → Leaves P (f tt r)) → Leaves P ((check test n >>= f) r)
+  pub check-leaves : (test : Bool) (n : ℕ) (f : Unit {0} → ReadStep B) (r : Room) → (test ≡ true → Leaves P (f tt r)) → Leaves P ((check test n >>= f) r)
   unfolding check _>>=_ return refuse
   check-leaves true n f r h = h refl
   check-leaves false n f r h = tt
 
-  pub text-leaves : (n : ℕ) (x : Found) (f : Text → Step B) (r : Room) → ((place k : ℕ) → x ≡ At place k → Leaves P (f (inChunk place k) r)) → Leaves P ((textOr n x >>= f) r)
+  pub text-leaves : (n : ℕ) (x : Found) (f : Text → ReadStep B) (r : Room) → ((place k : ℕ) → x ≡ At place k → Leaves P (f (inChunk place k) r)) → Leaves P ((textOr n x >>= f) r)
   unfolding textOr _>>=_ return refuse
   text-leaves n (At place k) f r h = h place k refl
   text-leaves n Bad f r h = tt
 
-  module _ (f : Unit {0} → Step B) (r : Room) where
+  module _ (f : Unit {0} → ReadStep B) (r : Room) where
     pub binding-leaves : ((r′ : Room) → Spent 1 0 0 0 r r′ → Leaves P (f tt r′)) → Leaves P ((takeBinding >>= f) r)
     unfolding takeBinding _>>=_
     binding-leaves h = go (r .bindings) refl
@@ -83,7 +83,7 @@ module _ {B : Type 0} (P : B → Room → Type 0) where
 -- Records one after the other.
 pub many-leaves : {A : Type 0} (Q : A → Room → Room → Type 0) (P : List A → Room → Room → Type 0)
     → ((r : Room) → P [] r r) → ((x : A) (xs : List A) (r r′ r″ : Room) → Q x r r′ → P xs r′ r″ → P (x ∷ xs) r r″)
-    → (read : ℕ → Step A) → ((at : ℕ) (r : Room) → Leaves (λ x r′. Q x r r′) (read at r)) → (stride n at : ℕ) (r : Room) → Leaves (λ xs r′. P xs r r′) (readMany read stride n at r)
+    → (read : ℕ → ReadStep A) → ((at : ℕ) (r : Room) → Leaves (λ x r′. Q x r r′) (read at r)) → (stride n at : ℕ) (r : Room) → Leaves (λ xs r′. P xs r r′) (readMany read stride n at r)
 unfolding readMany return
 many-leaves Q P none more read h stride zero at r = none r
 many-leaves Q P none more read h stride (suc n) at r =

@@ -11,13 +11,13 @@ use Rattle.reflection.specs.declared.Text.{Text}
 use Rattle.reflection.specs.declared.CBufferDef.{CBufferDef as BufferRecord}
 use Rattle.reflection.specs.declared.CBufferVariable.{CBufferVariable as VariableRecord}
 use Rattle.reflection.specs.Reflection.{TypeDesc, CBufferVariable, CBufferDef, ResourceBinding, ResourceDef, isSm5, isWide, mapType, mapBinding, mapVariable, mapBuffer, mapDef}
-use Rattle.reflection.specs.Nodes.{Node, _>>=_, typeFrom, typeLevels}
+use Rattle.reflection.specs.Nodes.{Node, _>>=_, typeFromNodes, typeLevels}
 use Rattle.reflection.specs.Tables.{allVariables}
-use Rattle.reflection.specs.Decode.{check, variableFrom, bufferFrom, variablesFrom, buffersFrom}
+use Rattle.reflection.specs.Decode.{guard, variableFromTable, bufferFromTable, variablesFrom, buffersFrom}
 use Rattle.reflection.specs.Texts.{inPlace, textBytes}
 use Rattle.reflection.specs.Contents.{Bytes, contents, typeNames, variableNames, outerNames, innerNames, defaultsOf}
 use Rattle.readable.specs.Readable.{every, nameReadable, defaultReadable, zeroUnless, versionReadable, bindingReadable, typeReadable, variableReadable, nodeCount, roomKept, readableContents, textsInPlace}
-use Rattle.readable.specs.Checks.{holds, nameHeld, defaultHeld, buffersTake, variableHeld, variablesTake}
+use Rattle.readable.specs.Checks.{passes, nameChecked, defaultChecked, buffersTake, variableChecked, variablesTake}
 use Rattle.readable.proofs.Bools.{tests-in-order, holds-check, holds-and, holds-same, holds-then, every-append, every-map, every-both}
 use Rattle.readable.proofs.TypeTests.{typeHeld, passed, type-held, type-left, length-held}
 use Rattle.readable.proofs.Counts.{map-node-count, variables-map}
@@ -48,50 +48,50 @@ module _ (chunk edits : Bytes) where
 
   -- The buffers: those that are built have the names of their records.
   pub buffers-take : (cs : List BufferRecord) (vs : List (CBufferVariable Text Text))
-      → holds (λ bs. every (nameHeld chunk edits) (map (λ b. b .name) bs)) (buffersFrom cs vs) ≡ buffersTake chunk edits cs (length vs)
-  unfolding buffersFrom buffersTake bufferFrom every
+      → passes (λ bs. every (nameChecked chunk edits) (map (λ b. b .name) bs)) (buffersFrom cs vs) ≡ buffersTake chunk edits cs (length vs)
+  unfolding buffersFrom buffersTake bufferFromTable every
   buffers-take [] [] = refl
   buffers-take [] (v ∷ vs) = sym (eqb·suc-zero (length vs))
   buffers-take (c ∷ cs) vs =
       let n = c .«variable_count» in
-      let named : List (CBufferDef Text Text) → Bool = λ bs. every (nameHeld chunk edits) (map (λ b. b .name) bs) in
+      let named : List (CBufferDef Text Text) → Bool = λ bs. every (nameChecked chunk edits) (map (λ b. b .name) bs) in
       holds-check named (leb n (length vs)) _
-      ∙ ap (λ b. leb n (length vs) && b) (holds-then named (buffersFrom cs (drop n vs)) _ ∙ holds-and (nameHeld chunk edits (c .name)) named (buffersFrom cs (drop n vs)) ∙ ap (λ b. nameHeld chunk edits (c .name) && b) (buffers-take cs (drop n vs)))
+      ∙ ap (λ b. leb n (length vs) && b) (holds-then named (buffersFrom cs (drop n vs)) _ ∙ holds-and (nameChecked chunk edits (c .name)) named (buffersFrom cs (drop n vs)) ∙ ap (λ b. nameChecked chunk edits (c .name) && b) (buffers-take cs (drop n vs)))
       ∙ rw (length-drop n vs) (simp tests-in-order)
 
   module _ (sm5 : Bool) where
     -- A variable with its type.
     unfoldable pub typedHeld : CBufferVariable Text Text → Bool
     typedHeld v =
-        (nameHeld chunk edits (v .name)
-        && (defaultHeld chunk edits (v .size) (v .default-value) && zeroUnless sm5 (v .texture-start ∷ v .texture-size ∷ v .sampler-start ∷ v .sampler-size ∷ [])))
+        (nameChecked chunk edits (v .name)
+        && (defaultChecked chunk edits (v .size) (v .default-value) && zeroUnless sm5 (v .texture-start ∷ v .texture-size ∷ v .sampler-start ∷ v .sampler-size ∷ [])))
         && typeHeld chunk edits sm5 (v .var-type) typeLevels
 
     one-variable : (v : VariableRecord) (t : TypeDesc Text) (left : List (Node Text)) (others : Option (List (CBufferVariable Text Text))) (rest : List (Node Text) → Bool)
-        → holds (every typedHeld) others ≡ rest left
-        → holds (every typedHeld) (others >>= λ typed. some (variableFrom v t ∷ typed))
-        ≡ (variableHeld chunk edits sm5 v && holds rest (check (typeHeld chunk edits sm5 t typeLevels && true) >>= λ _. some left))
-    unfolding every typedHeld variableHeld variableFrom
+        → passes (every typedHeld) others ≡ rest left
+        → passes (every typedHeld) (others >>= λ typed. some (variableFromTable v t ∷ typed))
+        ≡ (variableChecked chunk edits sm5 v && passes rest (guard (typeHeld chunk edits sm5 t typeLevels && true) >>= λ _. some left))
+    unfolding every typedHeld variableChecked variableFromTable
     one-variable v t left others rest e =
         holds-then (every typedHeld) others _
-        ∙ holds-and (typedHeld (variableFrom v t)) (every typedHeld) others
-        ∙ ap (λ b. typedHeld (variableFrom v t) && b) e
-        ∙ and-assoc (variableHeld chunk edits sm5 v) (typeHeld chunk edits sm5 t typeLevels) (rest left)
-        ∙ ap (λ b. variableHeld chunk edits sm5 v && b)
+        ∙ holds-and (typedHeld (variableFromTable v t)) (every typedHeld) others
+        ∙ ap (λ b. typedHeld (variableFromTable v t) && b) e
+        ∙ and-assoc (variableChecked chunk edits sm5 v) (typeHeld chunk edits sm5 t typeLevels) (rest left)
+        ∙ ap (λ b. variableChecked chunk edits sm5 v && b)
         (ap (λ b. b && rest left) (sym (and-true (typeHeld chunk edits sm5 t typeLevels))) ∙ sym (holds-check rest (typeHeld chunk edits sm5 t typeLevels && true) (λ _. some left)))
 
-    pub variables-take : (vs : List VariableRecord) (xs : List (Node Text)) → holds (every typedHeld) (variablesFrom vs xs) ≡ variablesTake chunk edits sm5 vs xs
+    pub variables-take : (vs : List VariableRecord) (xs : List (Node Text)) → passes (every typedHeld) (variablesFrom vs xs) ≡ variablesTake chunk edits sm5 vs xs
     unfolding variablesFrom variablesTake every
     variables-take [] [] = refl
     variables-take [] (x ∷ xs) = refl
     variables-take (v ∷ vs) xs =
-        let built = typeFrom typeLevels xs in
-        let own = variableHeld chunk edits sm5 v in
+        let built = typeFromNodes typeLevels xs in
+        let own = variableChecked chunk edits sm5 v in
         let rest = variablesTake chunk edits sm5 vs in
         holds-then (every typedHeld) built _
-        ∙ holds-same _ (λ t. own && holds rest (passed chunk edits sm5 false typeLevels t)) built (λ t e. one-variable v (t .type) (t .left) (variablesFrom vs (t .left)) rest (variables-take vs (t .left)))
-        ∙ holds-and own (λ t. holds rest (passed chunk edits sm5 false typeLevels t)) built
-        ∙ ap (λ b. own && b) (sym (holds-then rest built (passed chunk edits sm5 false typeLevels)) ∙ ap (holds rest) (sym (type-left chunk edits sm5 typeLevels false xs)))
+        ∙ holds-same _ (λ t. own && passes rest (passed chunk edits sm5 false typeLevels t)) built (λ t e. one-variable v (t .type) (t .left) (variablesFrom vs (t .left)) rest (variables-take vs (t .left)))
+        ∙ holds-and own (λ t. passes rest (passed chunk edits sm5 false typeLevels t)) built
+        ∙ ap (λ b. own && b) (sym (holds-then rest built (passed chunk edits sm5 false typeLevels)) ∙ ap (passes rest) (sym (type-left chunk edits sm5 typeLevels false xs)))
 
   -- The tests of the variables by their contents are those of the variables.
   module _ (sm5 : Bool) where
@@ -102,7 +102,7 @@ module _ (chunk edits : Bytes) where
         && (every nameReadable (variableNames (map (mapVariable bytes bytes) vs)) && every (variableReadable sm5) (map (mapVariable bytes bytes) vs)))
 
     pub variables-held : (vs : List (CBufferVariable Text Text)) → varTests vs ≡ every (typedHeld sm5) vs
-    unfolding variableNames every variableReadable mapVariable typedHeld nameHeld defaultHeld defaultReadable
+    unfolding variableNames every variableReadable mapVariable typedHeld nameChecked defaultChecked defaultReadable
     variables-held [] = refl
     variables-held (v ∷ vs) =
         rw (
@@ -123,17 +123,17 @@ module _ (chunk edits : Bytes) where
         (variables-held vs))
 
   -- Names by contents and in their buffers.
-  pub names-held : (ns : List Text) → (every (inPlace chunk edits) ns && every nameReadable (map bytes ns)) ≡ every (nameHeld chunk edits) ns
-  unfolding nameHeld
+  pub names-held : (ns : List Text) → (every (inPlace chunk edits) ns && every nameReadable (map bytes ns)) ≡ every (nameChecked chunk edits) ns
+  unfolding nameChecked
   names-held ns = ap (λ b. every (inPlace chunk edits) ns && b) (every-map nameReadable bytes ns) ∙ every-both (inPlace chunk edits) (λ n. nameReadable (bytes n)) ns
 
-  name-held : (t : Text) → (inPlace chunk edits t && nameReadable (bytes t)) ≡ nameHeld chunk edits t
-  unfolding nameHeld
+  name-held : (t : Text) → (inPlace chunk edits t && nameReadable (bytes t)) ≡ nameChecked chunk edits t
+  unfolding nameChecked
   name-held t = refl
 
   -- A binding.
   abbrev pub bindingTests : Bool → ResourceBinding Text → Bool
-  bindingTests wide b = nameHeld chunk edits (b .name) && bindingReadable wide b
+  bindingTests wide b = nameChecked chunk edits (b .name) && bindingReadable wide b
 
   map-map : {A B C : Type 0} (f : A → B) (g : B → C) (xs : List A) → map g (map f xs) ≡ map (λ x. g (f x)) xs
   map-map f g [] = refl
@@ -146,8 +146,8 @@ module _ (chunk edits : Bytes) where
   -- The same, part by part.
   abbrev pub testsByPart : ResourceDef Text Text → Bool
   testsByPart r =
-      ((versionReadable (r .target-version) (r .rd11) && nameHeld chunk edits (r .creator)) && every (bindingTests (isWide (r .rd11))) (r .bindings))
-      && (every (nameHeld chunk edits) (map (λ b. b .name) (r .constant-buffers))
+      ((versionReadable (r .target-version) (r .rd11) && nameChecked chunk edits (r .creator)) && every (bindingTests (isWide (r .rd11))) (r .bindings))
+      && (every (nameChecked chunk edits) (map (λ b. b .name) (r .constant-buffers))
       && (every (typedHeld (isSm5 (r .rd11))) (allVariables (r .constant-buffers)) && roomKept r))
 
   binding-names : (bs : List (ResourceBinding Text)) → map (λ b. b .name) (map (mapBinding bytes) bs) ≡ map bytes (map (λ b. b .name) bs)
@@ -165,8 +165,8 @@ module _ (chunk edits : Bytes) where
   bindings-tested : (wide : Bool) (bs : List (ResourceBinding Text))
       → ((every (inPlace chunk edits) (map (λ b. b .name) bs) && every nameReadable (map bytes (map (λ b. b .name) bs))) && every (bindingReadable wide) bs) ≡ every (bindingTests wide) bs
   bindings-tested wide bs =
-      ap (λ b. b && every (bindingReadable wide) bs) (names-held (map (λ b. b .name) bs) ∙ every-map (nameHeld chunk edits) (λ (b : ResourceBinding Text). b .name) bs)
-      ∙ every-both (λ b. nameHeld chunk edits (b .name)) (bindingReadable wide) bs
+      ap (λ b. b && every (bindingReadable wide) bs) (names-held (map (λ b. b .name) bs) ∙ every-map (nameChecked chunk edits) (λ (b : ResourceBinding Text). b .name) bs)
+      ∙ every-both (λ b. nameChecked chunk edits (b .name)) (bindingReadable wide) bs
 
   room-kept : (r : ResourceDef Text Text) → roomKept (contents chunk edits r) ≡ roomKept r
   unfolding roomKept contents mapDef
@@ -202,5 +202,5 @@ module _ (chunk edits : Bytes) where
       (inPlace chunk edits (r .creator)) (every (inPlace chunk edits) (map (λ v. v .default-value) vs)) (versionReadable (r .target-version) (r .rd11))
       (every nameReadable (map bytes bnames)) (every nameReadable (map bytes cnames)) (every nameReadable (variableNames (map (mapVariable bytes bytes) vs)))
       (nameReadable (bytes (r .creator))) (every (bindingReadable wide) bs) (every (variableReadable sm5) (map (mapVariable bytes bytes) vs)) (roomKept r)
-      (nameHeld chunk edits (r .creator)) (every (bindingTests wide) bs) (every (nameHeld chunk edits) cnames) (every (typedHeld sm5) vs)
+      (nameChecked chunk edits (r .creator)) (every (bindingTests wide) bs) (every (nameChecked chunk edits) cnames) (every (typedHeld sm5) vs)
       (name-held (r .creator)) (bindings-tested wide bs) (names-held cnames) (variables-held sm5 vs)

@@ -20,9 +20,9 @@ use Rattle.reflection.specs.Texts.{inChunk}
 use Rattle.reflection.specs.Tables.{allVariables}
 use Rattle.reflection.specs.Contents.{Bytes}
 use Rattle.reading.specs.Step.{Room, return}
-use Rattle.reading.specs.Read.{wordIf, readMany, readVariable, variableFrom, readBuffer, bufferFrom, readBinding, bindingFrom, readRd11, readTables, readChunk}
+use Rattle.reading.specs.Read.{wordIf, readMany, readVariable, variableFromChunk, readBuffer, bufferFromChunk, readBinding, bindingFromChunk, readRd11, readTables, readChunk}
 use Rattle.readable.specs.Readable.{every, zeroUnless, versionReadable, bindingReadable, nodeCount}
-use Rattle.readable.specs.Checks.{nameHeld}
+use Rattle.readable.specs.Checks.{nameChecked}
 use Rattle.readable.proofs.Bools.{every-append}
 use Rattle.readable.proofs.Parts.{typedHeld, bindingTests}
 use Rattle.readable.proofs.Leaves.{Leaves, Spent, none-spent, then-leaves, check-leaves, text-leaves, binding-leaves, buffer-leaves, variable-leaves, many-leaves}
@@ -68,7 +68,7 @@ module _ (chunk edits : Bytes) where
   space-held false a b = refl
 
   binding-read : (wide : Bool) (at : ℕ) (r : Room) → Leaves (λ b r′. BindingRead wide b r r′) (readBinding chunk wide at r)
-  unfolding readBinding bindingFrom bindingReadable return
+  unfolding readBinding bindingFromChunk bindingReadable return
   binding-read wide at r =
       let P : ResourceBinding Text → Room → Type 0 = λ b r′. BindingRead wide b r r′ in
       binding-leaves P _ r (λ r′ taken.
@@ -97,7 +97,7 @@ module _ (chunk edits : Bytes) where
       spent : Spent 0 0 (length vs) (nodeCount vs) r r′
 
     variable-read : (at : ℕ) (r : Room) → Leaves (λ v r′. VariableRead v r r′) (readVariable chunk sm5 at r)
-    unfolding readVariable variableFrom typedHeld return
+    unfolding readVariable variableFromChunk typedHeld return
     variable-read at r =
         let P : CBufferVariable Text Text → Room → Type 0 = λ v r′. VariableRead v r r′ in
         variable-leaves P _ r (λ r′ taken.
@@ -125,17 +125,17 @@ module _ (chunk edits : Bytes) where
 
     -- A buffer with its variables.
     record BufferRead (b : CBufferDef Text Text) (r r′ : Room) : Type 0 where
-      named : nameHeld chunk edits (b .name) ≡ true
+      named : nameChecked chunk edits (b .name) ≡ true
       held : every (typedHeld chunk edits sm5) (b .variables) ≡ true
       spent : Spent 0 1 (length (b .variables)) (nodeCount (b .variables)) r r′
 
     pub record BuffersRead (bs : List (CBufferDef Text Text)) (r r′ : Room) : Type 0 where
-      pub named : every (nameHeld chunk edits) (map (λ b. b .name) bs) ≡ true
+      pub named : every (nameChecked chunk edits) (map (λ b. b .name) bs) ≡ true
       pub held : every (typedHeld chunk edits sm5) (allVariables bs) ≡ true
       pub spent : Spent 0 (length bs) (length (allVariables bs)) (nodeCount (allVariables bs)) r r′
 
     buffer-read : (at : ℕ) (r : Room) → Leaves (λ b r′. BufferRead b r r′) (readBuffer chunk sm5 at r)
-    unfolding readBuffer bufferFrom return
+    unfolding readBuffer bufferFromChunk return
     buffer-read at r =
         let P : CBufferDef Text Text → Room → Type 0 = λ b r′. BufferRead b r r′ in
         buffer-leaves P _ r (λ r′ taken.
@@ -199,14 +199,14 @@ module _ (chunk : Bytes) where
 pub record DefRead (chunk edits : Bytes) (d : ResourceDef Text Text) (r r′ : Room) : Type 0 where
   pub short : length chunk ≤ chunkLimit
   pub version : versionReadable (d .target-version) (d .rd11) ≡ true
-  pub creator : nameHeld chunk edits (d .creator) ≡ true
+  pub creator : nameChecked chunk edits (d .creator) ≡ true
   pub bindings : every (bindingTests chunk edits (isWide (d .rd11))) (d .bindings) ≡ true
-  pub buffers : every (nameHeld chunk edits) (map (λ b. b .name) (d .constant-buffers)) ≡ true
+  pub buffers : every (nameChecked chunk edits) (map (λ b. b .name) (d .constant-buffers)) ≡ true
   pub variables : every (typedHeld chunk edits (isSm5 (d .rd11))) (allVariables (d .constant-buffers)) ≡ true
   pub spent : Spent (length (d .bindings)) (length (d .constant-buffers)) (length (allVariables (d .constant-buffers))) (nodeCount (allVariables (d .constant-buffers))) r r′
 
 module _ (chunk edits : Bytes) (bytes : (i : ℕ) → getD chunk i 0 < 256) where
-  tables-read : length chunk ≤ chunkLimit → (creator : Text) → nameHeld chunk edits creator ≡ true → (words : Rd11) → versionReadable (wordAt chunk 16) words ≡ true
+  tables-read : length chunk ≤ chunkLimit → (creator : Text) → nameChecked chunk edits creator ≡ true → (words : Rd11) → versionReadable (wordAt chunk 16) words ≡ true
       → (r : Room) → Leaves (λ d r′. DefRead chunk edits d r r′) (readTables chunk creator words r)
   unfolding readTables return
   tables-read short creator named words version r =

@@ -23,17 +23,17 @@ use Rattle.reflection.specs.Nodes.{Node, nodesOf, nodesOfMembers}
 use Rattle.reflection.specs.Texts.{inChunk}
 use Rattle.reflection.proofs.Texts.{place-in-chunk}
 use Rattle.reflection.specs.Contents.{Bytes}
-use Rattle.reading.specs.Step.{Room, Step, return, refuse}
+use Rattle.reading.specs.Step.{Room, ReadStep, return, refuse}
 use Rattle.reading.specs.Read.{wordIf, readMembers, cstringOrEmpty, typeNameAt, numbersFrom, readType, defaultAt}
 use Rattle.readable.specs.Readable.{every, nameReadable, zeroUnless, numbersReadable}
-use Rattle.readable.specs.Checks.{nameHeld, defaultHeld}
+use Rattle.readable.specs.Checks.{nameChecked, defaultChecked}
 use Rattle.readable.proofs.RecordTests.{name-in-chunk}
 use Rattle.readable.proofs.TypeTests.{typeHeld, membersHeld}
 use Rattle.readable.proofs.Leaves.{Leaves, Spent, none-spent, then-leaves, check-leaves, text-leaves, type-leaves}
 
 module _ (chunk edits : Bytes) where
   -- A string that is found is a readable name; so is the empty one.
-  pub string-held : (at place k : ℕ) → cstringAt chunk at ≡ At place k → nameHeld chunk edits (inChunk place k) ≡ true
+  pub string-held : (at place k : ℕ) → cstringAt chunk at ≡ At place k → nameChecked chunk edits (inChunk place k) ≡ true
   unfolding nameReadable
   string-held at place k e =
       let found : StringAt chunk at place k = cstring-found chunk at place k e in
@@ -42,7 +42,7 @@ module _ (chunk edits : Bytes) where
       ∙ ap (λ bs. inside (length chunk) place k && (withoutNul bs && wellFormed bs)) (part-inside chunk place k in-place)
       ∙ (λ i. in-place i && (found .no-nul i && found .formed i))
 
-  pub empty-held : nameHeld chunk edits (inChunk 0 0) ≡ true
+  pub empty-held : nameChecked chunk edits (inChunk 0 0) ≡ true
   unfolding nameReadable withoutNul wellFormed run
   empty-held =
       let in-place : inside (length chunk) 0 0 ≡ true = fits-inside (length chunk) 0 0 (omega arith) in
@@ -52,21 +52,21 @@ module _ (chunk edits : Bytes) where
 
   -- A type's name, which is empty for major 4.
   pub type-name-held : (sm5 : Bool) (at place k : ℕ) → typeNameAt chunk sm5 at ≡ At place k
-      → (nameHeld chunk edits (inChunk place k) ≡ true) × (zeroUnless sm5 (k ∷ []) ≡ true)
+      → (nameChecked chunk edits (inChunk place k) ≡ true) × (zeroUnless sm5 (k ∷ []) ≡ true)
   unfolding typeNameAt cstringOrEmpty zeroUnless every
   type-name-held false at place k e = (cc empty-held, cc)
   type-name-held true at place k e = (go (wordAt chunk (at + 32)) e, refl)
     where
-      go : (offset : ℕ) → cstringOrEmpty chunk offset ≡ At place k → nameHeld chunk edits (inChunk place k) ≡ true
+      go : (offset : ℕ) → cstringOrEmpty chunk offset ≡ At place k → nameChecked chunk edits (inChunk place k) ≡ true
       go zero f = cc empty-held
       go (suc offset) f = string-held (suc offset) place k f
 
   -- A default: empty, or of the size that was asked for.
-  placed-held : (size place k : ℕ) → place + k ≤ length chunk → (eqb k 0 || eqb k size) ≡ true → defaultHeld chunk edits size (inChunk place k) ≡ true
-  unfolding defaultHeld
+  placed-held : (size place k : ℕ) → place + k ≤ length chunk → (eqb k 0 || eqb k size) ≡ true → defaultChecked chunk edits size (inChunk place k) ≡ true
+  unfolding defaultChecked
   placed-held size place k h e = (λ i. (place-in-chunk chunk edits (inChunk place k) refl ∙ fits-inside (length chunk) place k h) i && e i)
 
-  pub default-held : (offset size place k : ℕ) → defaultAt chunk offset size ≡ At place k → defaultHeld chunk edits size (inChunk place k) ≡ true
+  pub default-held : (offset size place k : ℕ) → defaultAt chunk offset size ≡ At place k → defaultChecked chunk edits size (inChunk place k) ≡ true
   unfolding defaultAt
   default-held zero size place k e =
       let first : 0 ≡ place = cc in
@@ -75,7 +75,7 @@ module _ (chunk edits : Bytes) where
   default-held (suc offset) size place k e = go (inside (length chunk) (suc offset) size) refl e
     where
       go : (b : Bool) → inside (length chunk) (suc offset) size ≡ b → elim b [ true ↦ At (suc offset) size | false ↦ Bad ] ≡ At place k
-          → defaultHeld chunk edits size (inChunk place k) ≡ true
+          → defaultChecked chunk edits size (inChunk place k) ≡ true
       go true fits f =
           let here : suc offset ≡ place = cc in
           let long : size ≡ k = cc in
@@ -126,7 +126,7 @@ module _ (chunk edits : Bytes) (sm5 : Bool) where
     pub count : memberCount ms ≡ n
     pub spent : Spent 0 0 0 (length (nodesOfMembers ms)) r r′
 
-  members-read : (levels : ℕ) (read : ℕ → Step (TypeDesc Text)) → ((at : ℕ) (r : Room) → Leaves (TypeRead levels r) (read at r))
+  members-read : (levels : ℕ) (read : ℕ → ReadStep (TypeDesc Text)) → ((at : ℕ) (r : Room) → Leaves (TypeRead levels r) (read at r))
       → (n at : ℕ) (r : Room) → Leaves (MembersRead levels n r) (readMembers read chunk n at r)
   unfolding readMembers return membersHeld memberCount nodesOfMembers
   members-read levels read h zero at r = record { held = refl; count = refl; spent = none-spent r }

@@ -1,5 +1,5 @@
 -- What a readable reflection's tables hold: the reflection that they decode to, whose contents are readable, and counts and lengths within document 01's room.
--- Each step of `held` gave something; decoding keeps the counts, since every record, variable and node that is counted is used.
+-- Each step of `tableContents` gave something; decoding keeps the counts, since every record, variable and node that is counted is used.
 use mathlib.Core.Path.{_≡_, refl, sym, ap, _∙_}
 use mathlib.Core.Bool.{true, _&&_}
 use mathlib.Core.List.{List, map}
@@ -17,9 +17,9 @@ use Rattle.reflection.specs.Texts.{textBytes}
 use Rattle.reflection.specs.Reflection.{mapBinding, mapVariable, mapBuffer, ResourceDef, mapDef, isSm5, isWide}
 use Rattle.reflection.specs.Records.{bindingWidth, bufferWidth, variableWidth, typeWidth, typeAt, variableAt, bufferAt, bindingAt}
 use Rattle.reflection.specs.Tables.{allVariables}
-use Rattle.reflection.specs.Decode.{firstRecords, nodeFrom, variablesFrom, buffersFrom, bindingFrom, decode}
+use Rattle.reflection.specs.Decode.{firstRecords, nodeFromTable, variablesFrom, buffersFrom, bindingFromTable, decode}
 use Rattle.reflection.specs.Contents.{Bytes, contents, innerNames, outerNames}
-use Rattle.readable.specs.Readable.{readable, held, isReadable, readableContents, rd11Absent, textsInPlace, roomKept, nodeCount, every, variableReadable, bindingReadable, nameReadable, versionReadable}
+use Rattle.readable.specs.Readable.{readable, tableContents, isReadable, readableContents, rd11Absent, textsInPlace, roomKept, nodeCount, every, variableReadable, bindingReadable, nameReadable, versionReadable}
 use Rattle.readable.proofs.Bools.{then-was, check-was}
 use Rattle.readable.proofs.Counts.{length-records, variables-used, buffers-taken, map-node-count}
 pub use Rattle.readable.proofs.Counts.{variables-map}
@@ -32,7 +32,7 @@ some-was {a = a} e = ap (λ o. elim o [ none ↦ a | some x ↦ x ]) e
 pub record Readable (chunk edits : Bytes) (h : Header) (bindings buffers variables types : List ℕ) : Type 0 where
   pub def : ResourceDef Text Text
   pub decoded : decode h bindings buffers variables types ≡ some def
-  pub is-held : held chunk edits h bindings buffers variables types ≡ some (contents chunk edits def)
+  pub is-held : tableContents chunk edits h bindings buffers variables types ≡ some (contents chunk edits def)
   pub is-readable : readableContents (contents chunk edits def) ≡ true
   pub chunk-long : length chunk ≤ chunkLimit
   pub edits-long : length edits ≤ chunkLimit
@@ -71,18 +71,18 @@ decode-counts h bindings buffers variables types r e =
     let (cs, c, e₂) = then-was (firstRecords bufferWidth bufferAt buffers (h .«buffer_count»)) _ r e₁ in
     let (vs, v, e₃) = then-was (firstRecords variableWidth variableAt variables (h .«variable_count»)) _ r e₂ in
     let (ts, t, e₄) = then-was (firstRecords typeWidth typeAt types (h .«type_count»)) _ r e₃ in
-    let (typed, with-types, e₅) = then-was (variablesFrom vs (map nodeFrom ts)) _ r e₄ in
+    let (typed, with-types, e₅) = then-was (variablesFrom vs (map nodeFromTable ts)) _ r e₄ in
     let (filled, in-buffers, e₆) = then-was (buffersFrom cs typed) _ r e₅ in
     let is = some-was e₆ in
-    let used = variables-used vs (map nodeFrom ts) typed with-types in
+    let used = variables-used vs (map nodeFromTable ts) typed with-types in
     let all = buffers-taken cs typed filled in-buffers in
     record {
-      binding-count = ap (λ (q : ResourceDef Text Text). length (q .bindings)) (sym is) ∙ length-map bs bindingFrom ∙ first-was bindingWidth bindingAt bindings _ bs b .1;
+      binding-count = ap (λ (q : ResourceDef Text Text). length (q .bindings)) (sym is) ∙ length-map bs bindingFromTable ∙ first-was bindingWidth bindingAt bindings _ bs b .1;
       buffer-count = ap (λ (q : ResourceDef Text Text). length (q .constant-buffers)) (sym is) ∙ all .buffers ∙ first-was bufferWidth bufferAt buffers _ cs c .1;
       variable-count =
           ap (λ (q : ResourceDef Text Text). length (allVariables (q .constant-buffers))) (sym is) ∙ ap length (all .variables) ∙ used .variables ∙ first-was variableWidth variableAt variables _ vs v .1;
       type-count =
-          ap (λ (q : ResourceDef Text Text). nodeCount (allVariables (q .constant-buffers))) (sym is) ∙ ap nodeCount (all .variables) ∙ used .nodes ∙ length-map ts nodeFrom
+          ap (λ (q : ResourceDef Text Text). nodeCount (allVariables (q .constant-buffers))) (sym is) ∙ ap nodeCount (all .variables) ∙ used .nodes ∙ length-map ts nodeFromTable
           ∙ first-was typeWidth typeAt types _ ts t .1;
       bindings-inside = first-was bindingWidth bindingAt bindings _ bs b .0;
       buffers-inside = first-was bufferWidth bufferAt buffers _ cs c .0;
@@ -135,9 +135,9 @@ module _ (chunk edits : Bytes) (h : Header) (bindings buffers variables types : 
   is-some none e = absurd (let apart : _≡_ {A = ℕ} 0 1 = cc in omega arith)
   is-some (some r) e = (r, refl, e)
 
-  held-holds : (c : ResourceDef Bytes Bytes) → held chunk edits h bindings buffers variables types ≡ some c → readableContents c ≡ true
+  held-holds : (c : ResourceDef Bytes Bytes) → tableContents chunk edits h bindings buffers variables types ≡ some c → readableContents c ≡ true
       → Readable chunk edits h bindings buffers variables types
-  unfolding held
+  unfolding tableContents
   held-holds c e passes =
       let (long, e₁) = check-was (leb (length chunk) chunkLimit && leb (length edits) chunkLimit) _ c e in
       let (absent, e₂) = check-was (rd11Absent h) _ c e₁ in
@@ -168,5 +168,5 @@ module _ (chunk edits : Bytes) (h : Header) (bindings buffers variables types : 
   pub readable-holds : readable chunk edits h bindings buffers variables types ≡ true → Readable chunk edits h bindings buffers variables types
   unfolding readable
   readable-holds e =
-      let (c, is, passes) = is-some (held chunk edits h bindings buffers variables types) e in
+      let (c, is, passes) = is-some (tableContents chunk edits h bindings buffers variables types) e in
       held-holds c is passes

@@ -14,16 +14,18 @@ use Rattle.reflection.specs.Limits.{bindingRoom, bufferRoom, variableRoom, type
 use Rattle.reflection.specs.declared.Text.{Text}
 use Rattle.reflection.specs.Outcome.{ok}
 use Rattle.reflection.specs.Reflection.{TypeDesc, typeDesc, Members, noMember, member, CBufferVariable, ResourceDef, Rd11, noRd11, rd11, memberCount, majorOf, isSm5, identifierOf, strideOf, slotsOf}
-use Rattle.reflection.specs.Nodes.{typeLevels, Fits, FitsAll}
+use Rattle.reflection.specs.Nodes.{typeLevels}
+use Rattle.reflection.proofs.Levels.{Fits, FitsAll}
 use Rattle.reflection.specs.Tables.{padded, allVariables, bindingRows, bufferRows, variableRows, typeRows, headerOf}
-use Rattle.reflection.specs.Decode.{check, rd11From, TypesFit}
+use Rattle.reflection.specs.Decode.{guard, rd11FromHeader}
+use Rattle.reflection.proofs.Levels.{TypesFit}
 use Rattle.reflection.proofs.Nodes.{then-some}
 use Rattle.reflection.proofs.Decode.{rd11Of, rd11-of-header, decode-encoded}
 use Rattle.reflection.specs.Contents.{Bytes, contents}
 use Rattle.reading.specs.Step.{Room, roomOf}
 use Rattle.reading.specs.Read.{readChunk, read}
-use Rattle.readable.specs.Readable.{every, zeroUnless, versionReadable, numbersReadable, nodeCount, roomKept, readableContents, rd11Absent, textsInPlace, held, isReadable, readable}
-use Rattle.readable.specs.Checks.{nameHeld, defaultHeld}
+use Rattle.readable.specs.Readable.{every, zeroUnless, versionReadable, numbersReadable, nodeCount, roomKept, readableContents, rd11Absent, textsInPlace, tableContents, isReadable, readable}
+use Rattle.readable.specs.Checks.{nameChecked, defaultChecked}
 use Rattle.readable.proofs.TypeTests.{typeHeld, membersHeld}
 use Rattle.readable.proofs.Parts.{typedHeld, tests, tests-by-part}
 use Rattle.readable.proofs.Leaves.{value-left}
@@ -50,13 +52,13 @@ module _ (chunk edits : Bytes) (sm5 : Bool) where
     held-fits (typeDesc k n ms) zero e = absurd (let apart : _≡_ {A = ℕ} 0 1 = cc in omega arith)
     held-fits (typeDesc k n ms) (suc levels) e =
         held-fits-all ms levels
-        (and-true (numbersReadable sm5 k && (leb (memberCount ms) 65535 && (zeroUnless sm5 (n .length ∷ []) && nameHeld chunk edits n))) (membersHeld chunk edits sm5 ms levels) e .1)
+        (and-true (numbersReadable sm5 k && (leb (memberCount ms) 65535 && (zeroUnless sm5 (n .length ∷ []) && nameChecked chunk edits n))) (membersHeld chunk edits sm5 ms levels) e .1)
 
     held-fits-all : (ms : Members Text) (levels : ℕ) → membersHeld chunk edits sm5 ms levels ≡ true → FitsAll ms levels
     held-fits-all noMember levels e = tt
     held-fits-all (member n o t ms) levels e =
-        let (first, others) = and-true (typeHeld chunk edits sm5 t levels && nameHeld chunk edits n) (membersHeld chunk edits sm5 ms levels) e in
-        (held-fits t levels (and-true (typeHeld chunk edits sm5 t levels) (nameHeld chunk edits n) first .0), held-fits-all ms levels others)
+        let (first, others) = and-true (typeHeld chunk edits sm5 t levels && nameChecked chunk edits n) (membersHeld chunk edits sm5 ms levels) e in
+        (held-fits t levels (and-true (typeHeld chunk edits sm5 t levels) (nameChecked chunk edits n) first .0), held-fits-all ms levels others)
 
   types-fit : (vs : List (CBufferVariable Text Text)) → every (typedHeld chunk edits sm5) vs ≡ true → TypesFit vs
   unfolding every typedHeld TypesFit
@@ -64,8 +66,8 @@ module _ (chunk edits : Bytes) (sm5 : Bool) where
   types-fit (v ∷ vs) e =
       let (first, others) = and-true (typedHeld chunk edits sm5 v) (every (typedHeld chunk edits sm5) vs) e in
       let own =
-      nameHeld chunk edits (v .name)
-      && (defaultHeld chunk edits (v .size) (v .default-value) && zeroUnless sm5 (v .texture-start ∷ v .texture-size ∷ v .sampler-start ∷ v .sampler-size ∷ [])) in
+      nameChecked chunk edits (v .name)
+      && (defaultChecked chunk edits (v .size) (v .default-value) && zeroUnless sm5 (v .texture-start ∷ v .texture-size ∷ v .sampler-start ∷ v .sampler-size ∷ [])) in
       (held-fits (v .var-type) typeLevels (and-true own (typeHeld chunk edits sm5 (v .var-type) typeLevels) first .1), types-fit vs others)
 
 -- A header has the RD11 words of its reflection, where the version is readable.
@@ -76,7 +78,7 @@ words-of-version version noRd11 e =
     sym (ap (λ b. rd11Of b noRd11) (ne-eqb (majorOf version) 5 (λ five. omega arith)))
 words-of-version version (rd11 identifier stride slots) e = sym (ap (λ b. rd11Of b (rd11 identifier stride slots)) (and-true (eqb (majorOf version) 5) _ e .0))
 
-header-words : (d : ResourceDef Text Text) → versionReadable (d .target-version) (d .rd11) ≡ true → d .rd11 ≡ rd11From (headerOf d)
+header-words : (d : ResourceDef Text Text) → versionReadable (d .target-version) (d .rd11) ≡ true → d .rd11 ≡ rd11FromHeader (headerOf d)
 header-words d e = words-of-version (d .target-version) (d .rd11) e ∙ sym (rd11-of-header d (eqb (majorOf (d .target-version)) 5) refl)
 
 abbrev threeWords : Rd11 → List ℕ
@@ -126,14 +128,14 @@ module _
 
   module _ (edits-short : length edits ≤ chunkLimit) (nb nf nv nt : ℕ) where
     -- The tables that reading leaves hold it.
-    pub read-held : held chunk edits (headerOf d) (padded nb (bindingRows d)) (padded nf (bufferRows d)) (padded nv (variableRows d)) (padded nt (typeRows d)) ≡ some (contents chunk edits d)
-    unfolding held check
+    pub read-held : tableContents chunk edits (headerOf d) (padded nb (bindingRows d)) (padded nf (bufferRows d)) (padded nv (variableRows d)) (padded nt (typeRows d)) ≡ some (contents chunk edits d)
+    unfolding tableContents guard
     read-held =
         let is : DefRead chunk edits d room (was-read .0) = was-read .1 in
-        then-some _ (ap check (λ i. le-leb (length chunk) chunkLimit (is .short) i && le-leb (length edits) chunkLimit edits-short i))
-        (then-some _ (ap check (absent-of-header d (is .version)))
+        then-some _ (ap guard (λ i. le-leb (length chunk) chunkLimit (is .short) i && le-leb (length edits) chunkLimit edits-short i))
+        (then-some _ (ap guard (absent-of-header d (is .version)))
         (then-some _ (decode-encoded d nb nf nv nt (types-fit chunk edits (isSm5 (d .rd11)) (allVariables (d .constant-buffers)) (is .variables)) (header-words d (is .version)))
-        (then-some _ (ap check read-in-place) refl)))
+        (then-some _ (ap guard read-in-place) refl)))
 
     -- So they are readable.
     pub read-readable : readable chunk edits (headerOf d) (padded nb (bindingRows d)) (padded nf (bufferRows d)) (padded nv (variableRows d)) (padded nt (typeRows d)) ≡ true

@@ -17,12 +17,12 @@ use Rattle.reflection.specs.declared.CBufferDef.{CBufferDef as BufferRecord}
 use Rattle.reflection.specs.declared.CBufferVariable.{CBufferVariable as VariableRecord}
 use Rattle.reflection.specs.declared.TypeDesc.{TypeDesc as TypeRecord}
 use Rattle.reflection.specs.Records.{bindingAt, bufferAt}
-use Rattle.reflection.specs.Decode.{recordsFrom, bindingFrom, nodeFrom}
+use Rattle.reflection.specs.Decode.{recordsFrom, bindingFromTable, nodeFromTable}
 use Rattle.reflection.specs.Contents.{Bytes}
 use Rattle.reflection.specs.Texts.{textBytes}
 use Rattle.reflection.proofs.Texts.{place-in-chunk, place-in-edits, place-nowhere, bytes-in-chunk, bytes-in-edits}
 use Rattle.readable.specs.Readable.{every, nameReadable, zeroUnless, bindingReadable, numbersReadable}
-use Rattle.readable.specs.Checks.{nameHeld, defaultHeld, bindingHeld, bindingsHeld, buffersTake, buffersHeld, variableHeld, nodeHeld}
+use Rattle.readable.specs.Checks.{nameChecked, defaultChecked, bindingChecked, bindingsChecked, buffersTake, buffersChecked, variableChecked, nodeChecked}
 
 zeros-unless : (b : Bool) (ws : List ℕ) → zeroUnless b ws ≡ (b || every (λ w. eqb w 0) ws)
 unfolding zeroUnless
@@ -41,40 +41,40 @@ four-zeros : (b : Bool) (x y z w : ℕ) → zeroUnless b (x ∷ y ∷ z ∷ w �
 unfolding every
 four-zeros b x y z w = zeros-unless b (x ∷ y ∷ z ∷ w ∷ []) ∙ ap (λ t. b || (eqb x 0 && (eqb y 0 && (eqb z 0 && t)))) (and-true (eqb w 0))
 
-pub binding-tested : (chunk edits : Bytes) (wide : Bool) (b : BindingRecord) → bindingHeld chunk edits wide b
-    ≡ (nameHeld chunk edits (b .name)
+pub binding-tested : (chunk edits : Bytes) (wide : Bool) (b : BindingRecord) → bindingChecked chunk edits wide b
+    ≡ (nameChecked chunk edits (b .name)
     && (known inputTypes (b .«input_type»)
     && (known srvDimensions (b .dimension) && (bindingFlagsAllowed (b .flags .0) && (wide || (eqb (b .space) 0 && eqb (b .id) 0))))))
-unfolding bindingHeld bindingReadable bindingFrom
+unfolding bindingChecked bindingReadable bindingFromTable
 binding-tested chunk edits wide b =
-    ap (λ z. nameHeld chunk edits (b .name) && (known inputTypes (b .«input_type») && (known srvDimensions (b .dimension) && (bindingFlagsAllowed (b .flags .0) && z))))
+    ap (λ z. nameChecked chunk edits (b .name) && (known inputTypes (b .«input_type») && (known srvDimensions (b .dimension) && (bindingFlagsAllowed (b .flags .0) && z))))
     (two-zeros wide (b .space) (b .id))
 
-pub variable-tested : (chunk edits : Bytes) (sm5 : Bool) (v : VariableRecord) → variableHeld chunk edits sm5 v
-    ≡ (nameHeld chunk edits (v .name)
-    && (defaultHeld chunk edits (v .size) (v .«default_value»)
+pub variable-tested : (chunk edits : Bytes) (sm5 : Bool) (v : VariableRecord) → variableChecked chunk edits sm5 v
+    ≡ (nameChecked chunk edits (v .name)
+    && (defaultChecked chunk edits (v .size) (v .«default_value»)
     && (sm5 || ((eqb (v .«texture_start») 0 && eqb (v .«texture_size») 0) && (eqb (v .«sampler_start») 0 && eqb (v .«sampler_size») 0)))))
-unfolding variableHeld
+unfolding variableChecked
 variable-tested chunk edits sm5 v =
-    ap (λ z. nameHeld chunk edits (v .name) && (defaultHeld chunk edits (v .size) (v .«default_value») && z))
+    ap (λ z. nameChecked chunk edits (v .name) && (defaultChecked chunk edits (v .size) (v .«default_value») && z))
     (four-zeros sm5 (v .«texture_start») (v .«texture_size») (v .«sampler_start») (v .«sampler_size»)
     ∙ ap (λ z. sm5 || z) (sym (and-assoc (eqb (v .«texture_start») 0) (eqb (v .«texture_size») 0) (eqb (v .«sampler_start») 0 && eqb (v .«sampler_size») 0))))
 
-pub numbers-tested : (sm5 : Bool) (t : TypeRecord) → numbersReadable sm5 (nodeFrom t .numbers)
+pub numbers-tested : (sm5 : Bool) (t : TypeRecord) → numbersReadable sm5 (nodeFromTable t .numbers)
     ≡ ((leb (t .class) 65535 && (leb (t .«var_type») 65535 && (leb (t .rows) 65535 && (leb (t .columns) 65535 && leb (t .elements) 65535))))
     && (sm5 || (eqb (t .extra0) 0 && (eqb (t .extra1) 0 && (eqb (t .extra2) 0 && eqb (t .extra3) 0)))))
-unfolding numbersReadable nodeFrom every
+unfolding numbersReadable nodeFromTable every
 numbers-tested sm5 t =
     (λ i. (leb (t .class) 65535 && (leb (t .«var_type») 65535 && (leb (t .rows) 65535 && (leb (t .columns) 65535 && and-true (leb (t .elements) 65535) i))))
     && four-zeros sm5 (t .extra0) (t .extra1) (t .extra2) (t .extra3) i)
 
-pub node-tested : (chunk edits : Bytes) (sm5 inner : Bool) (t : TypeRecord) → nodeHeld chunk edits sm5 inner (nodeFrom t)
-    ≡ (numbersReadable sm5 (nodeFrom t .numbers)
+pub node-tested : (chunk edits : Bytes) (sm5 inner : Bool) (t : TypeRecord) → nodeChecked chunk edits sm5 inner (nodeFromTable t)
+    ≡ (numbersReadable sm5 (nodeFromTable t .numbers)
     && (leb (t .«member_count») 65535
-    && ((sm5 || eqb (t .name .length) 0) && (nameHeld chunk edits (t .name) && (not inner || nameHeld chunk edits (t .«member_name»))))))
-unfolding nodeHeld nodeFrom
+    && ((sm5 || eqb (t .name .length) 0) && (nameChecked chunk edits (t .name) && (not inner || nameChecked chunk edits (t .«member_name»))))))
+unfolding nodeChecked nodeFromTable
 node-tested chunk edits sm5 inner t =
-    ap (λ z. numbersReadable sm5 (nodeFrom t .numbers) && (leb (t .«member_count») 65535 && (z && (nameHeld chunk edits (t .name) && (not inner || nameHeld chunk edits (t .«member_name»))))))
+    ap (λ z. numbersReadable sm5 (nodeFromTable t .numbers) && (leb (t .«member_count») 65535 && (z && (nameChecked chunk edits (t .name) && (not inner || nameChecked chunk edits (t .«member_name»))))))
     (one-zero sm5 (t .name .length))
 
 -- The records from i on.
@@ -93,55 +93,55 @@ module _ {A : Type 0} (at : ℕ → A) where
       (λ j. at i ∷ recordsFrom at (next j) (fewer j))
 
 module _ (chunk edits : Bytes) where
-  pub bindings-none : (wide : Bool) (t : List ℕ) (i n : ℕ) → n ≤ 0 → bindingsHeld chunk edits wide t i n ≡ true
-  unfolding bindingsHeld every
-  bindings-none wide t i n e = ap (every (bindingHeld chunk edits wide)) (records-none (bindingAt t) i n e)
+  pub bindings-none : (wide : Bool) (t : List ℕ) (i n : ℕ) → n ≤ 0 → bindingsChecked chunk edits wide t i n ≡ true
+  unfolding bindingsChecked every
+  bindings-none wide t i n e = ap (every (bindingChecked chunk edits wide)) (records-none (bindingAt t) i n e)
 
   pub bindings-next : (wide : Bool) (t : List ℕ) (i n : ℕ) → 0 < n
-      → bindingsHeld chunk edits wide t i n ≡ (bindingHeld chunk edits wide (bindingAt t i) && bindingsHeld chunk edits wide t (i + 1) (n - 1))
-  unfolding bindingsHeld every
-  bindings-next wide t i n e = ap (every (bindingHeld chunk edits wide)) (records-next (bindingAt t) i n e)
+      → bindingsChecked chunk edits wide t i n ≡ (bindingChecked chunk edits wide (bindingAt t i) && bindingsChecked chunk edits wide t (i + 1) (n - 1))
+  unfolding bindingsChecked every
+  bindings-next wide t i n e = ap (every (bindingChecked chunk edits wide)) (records-next (bindingAt t) i n e)
 
-  pub buffers-none : (t : List ℕ) (i n left : ℕ) → n ≤ 0 → buffersHeld chunk edits t i n left ≡ eqb left 0
-  unfolding buffersHeld buffersTake
+  pub buffers-none : (t : List ℕ) (i n left : ℕ) → n ≤ 0 → buffersChecked chunk edits t i n left ≡ eqb left 0
+  unfolding buffersChecked buffersTake
   buffers-none t i n left e = ap (λ bs. buffersTake chunk edits bs left) (records-none (bufferAt t) i n e)
 
   buffers-next : (t : List ℕ) (i n left : ℕ) → 0 < n
-      → buffersHeld chunk edits t i n left
-      ≡ (nameHeld chunk edits (bufferAt t i .name)
-      && (leb (bufferAt t i .«variable_count») left && buffersHeld chunk edits t (i + 1) (n - 1) (left - bufferAt t i .«variable_count»)))
-  unfolding buffersHeld buffersTake
+      → buffersChecked chunk edits t i n left
+      ≡ (nameChecked chunk edits (bufferAt t i .name)
+      && (leb (bufferAt t i .«variable_count») left && buffersChecked chunk edits t (i + 1) (n - 1) (left - bufferAt t i .«variable_count»)))
+  unfolding buffersChecked buffersTake
   buffers-next t i n left e = ap (λ bs. buffersTake chunk edits bs left) (records-next (bufferAt t) i n e)
 
   -- The next buffer, once its record is read: its name fails, it counts too many variables, or it passes.
   module _ (t : List ℕ) (i n left : ℕ) (b : BufferRecord) (some-left : 0 < n) (read : b ≡ bufferAt t i) where
-    next-buffer : buffersHeld chunk edits t i n left
-        ≡ (nameHeld chunk edits (b .name) && (leb (b .«variable_count») left && buffersHeld chunk edits t (i + 1) (n - 1) (left - b .«variable_count»)))
+    next-buffer : buffersChecked chunk edits t i n left
+        ≡ (nameChecked chunk edits (b .name) && (leb (b .«variable_count») left && buffersChecked chunk edits t (i + 1) (n - 1) (left - b .«variable_count»)))
     next-buffer =
         buffers-next t i n left some-left
-        ∙ ap (λ (b : BufferRecord). nameHeld chunk edits (b .name) && (leb (b .«variable_count») left && buffersHeld chunk edits t (i + 1) (n - 1) (left - b .«variable_count»))) (sym read)
+        ∙ ap (λ (b : BufferRecord). nameChecked chunk edits (b .name) && (leb (b .«variable_count») left && buffersChecked chunk edits t (i + 1) (n - 1) (left - b .«variable_count»))) (sym read)
 
-    pub buffer-name-fails : nameHeld chunk edits (b .name) ≡ false → buffersHeld chunk edits t i n left ≡ false
-    buffer-name-fails e = next-buffer ∙ ap (λ z. z && (leb (b .«variable_count») left && buffersHeld chunk edits t (i + 1) (n - 1) (left - b .«variable_count»))) e
+    pub buffer-name-fails : nameChecked chunk edits (b .name) ≡ false → buffersChecked chunk edits t i n left ≡ false
+    buffer-name-fails e = next-buffer ∙ ap (λ z. z && (leb (b .«variable_count») left && buffersChecked chunk edits t (i + 1) (n - 1) (left - b .«variable_count»))) e
 
-    pub buffer-count-fails : nameHeld chunk edits (b .name) ≡ true → left < b .«variable_count» → buffersHeld chunk edits t i n left ≡ false
-    buffer-count-fails e h = next-buffer ∙ (λ j. e j && (lt-leb (b .«variable_count») left h j && buffersHeld chunk edits t (i + 1) (n - 1) (left - b .«variable_count»)))
+    pub buffer-count-fails : nameChecked chunk edits (b .name) ≡ true → left < b .«variable_count» → buffersChecked chunk edits t i n left ≡ false
+    buffer-count-fails e h = next-buffer ∙ (λ j. e j && (lt-leb (b .«variable_count») left h j && buffersChecked chunk edits t (i + 1) (n - 1) (left - b .«variable_count»)))
 
-    pub buffer-passes : nameHeld chunk edits (b .name) ≡ true → b .«variable_count» ≤ left
-        → buffersHeld chunk edits t i n left ≡ buffersHeld chunk edits t (i + 1) (n - 1) (left - b .«variable_count»)
-    buffer-passes e h = next-buffer ∙ (λ j. e j && (le-leb (b .«variable_count») left h j && buffersHeld chunk edits t (i + 1) (n - 1) (left - b .«variable_count»)))
+    pub buffer-passes : nameChecked chunk edits (b .name) ≡ true → b .«variable_count» ≤ left
+        → buffersChecked chunk edits t i n left ≡ buffersChecked chunk edits t (i + 1) (n - 1) (left - b .«variable_count»)
+    buffer-passes e h = next-buffer ∙ (λ j. e j && (le-leb (b .«variable_count») left h j && buffersChecked chunk edits t (i + 1) (n - 1) (left - b .«variable_count»)))
 
 -- A name by its source.
 module _ (chunk edits : Bytes) (t : Text) where
-  pub name-in-chunk : t .source ≡ 0 → nameHeld chunk edits t ≡ (inside (length chunk) (t .place) (t .length) && nameReadable (part chunk (t .place) (t .length)))
-  unfolding nameHeld
+  pub name-in-chunk : t .source ≡ 0 → nameChecked chunk edits t ≡ (inside (length chunk) (t .place) (t .length) && nameReadable (part chunk (t .place) (t .length)))
+  unfolding nameChecked
   name-in-chunk e = (λ i. place-in-chunk chunk edits t e i && nameReadable (bytes-in-chunk chunk edits t e i))
 
   pub name-in-edits : (t .source ≡ 0 → ⊥) → t .source ≡ 1
-      → nameHeld chunk edits t ≡ (inside (length edits) (t .place) (t .length) && nameReadable (part edits (t .place) (t .length)))
-  unfolding nameHeld
+      → nameChecked chunk edits t ≡ (inside (length edits) (t .place) (t .length) && nameReadable (part edits (t .place) (t .length)))
+  unfolding nameChecked
   name-in-edits n e = (λ i. place-in-edits chunk edits t n e i && nameReadable (bytes-in-edits chunk edits t n e i))
 
-  pub name-nowhere : (t .source ≡ 0 → ⊥) → (t .source ≡ 1 → ⊥) → nameHeld chunk edits t ≡ false
-  unfolding nameHeld
+  pub name-nowhere : (t .source ≡ 0 → ⊥) → (t .source ≡ 1 → ⊥) → nameChecked chunk edits t ≡ false
+  unfolding nameChecked
   name-nowhere n m = ap (λ b. b && nameReadable (textBytes chunk edits t)) (place-nowhere chunk edits t n m)

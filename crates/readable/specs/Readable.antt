@@ -19,7 +19,7 @@ use Rattle.reflection.specs.Tables.{allVariables}
 use Rattle.reflection.specs.Limits.{chunkLimit, bindingRoom, bufferRoom, variableRoom, typeRoom}
 use Rattle.reflection.specs.Strides.{rd11HeaderSize, bufferStride, variableStride, typeStride, memberStride}
 use Rattle.reflection.specs.Rd11.{rd11Allowed}
-use Rattle.reflection.specs.Decode.{check, rd11From, decode}
+use Rattle.reflection.specs.Decode.{guard, rd11FromHeader, decode}
 use Rattle.reflection.specs.Texts.{inPlace}
 use Rattle.reflection.specs.Contents.{Bytes, contents, outerNames, innerNames, defaultsOf}
 
@@ -99,7 +99,7 @@ readableContents r =
 -- A header of another major than 5 has no RD11 words: those that it holds are 0.
 unfoldable pub rd11Absent : Header → Bool
 rd11Absent h =
-    zeroUnless (isSm5 (rd11From h)) (h .rd11 .identifier ∷ h .rd11 .«resource_binding_stride» ∷ h .rd11 .«interface_slot_count» ∷ [])
+    zeroUnless (isSm5 (rd11FromHeader h)) (h .rd11 .identifier ∷ h .rd11 .«resource_binding_stride» ∷ h .rd11 .«interface_slot_count» ∷ [])
 
 -- Every name and default lies in the buffer that its source names.
 unfoldable pub textsInPlace : Bytes → Bytes → ResourceDef Text Text → Bool
@@ -107,12 +107,12 @@ textsInPlace chunk edits r = every (inPlace chunk edits) (outerNames r) && (ever
 
 -- The contents of a reflection in a header, four tables and two buffers: "both buffers at most 65,536 bytes, places inside them, counts that match the
 -- records held". Where that is not so it has none.
-unfoldable pub held : Bytes → Bytes → Header → List ℕ → List ℕ → List ℕ → List ℕ → Option (ResourceDef Bytes Bytes)
-held chunk edits h bindings buffers variables types = do
-  _ ← check (leb (length chunk) chunkLimit && leb (length edits) chunkLimit)
-  _ ← check (rd11Absent h)
+unfoldable pub tableContents : Bytes → Bytes → Header → List ℕ → List ℕ → List ℕ → List ℕ → Option (ResourceDef Bytes Bytes)
+tableContents chunk edits h bindings buffers variables types = do
+  _ ← guard (leb (length chunk) chunkLimit && leb (length edits) chunkLimit)
+  _ ← guard (rd11Absent h)
   r ← decode h bindings buffers variables types
-  _ ← check (textsInPlace chunk edits r)
+  _ ← guard (textsInPlace chunk edits r)
   some (contents chunk edits r)
 
 abbrev pub isReadable : Option (ResourceDef Bytes Bytes) → Bool
@@ -121,4 +121,4 @@ isReadable (some r) = readableContents r
 
 -- Readable, of a reflection in lent tables.
 unfoldable pub readable : Bytes → Bytes → Header → List ℕ → List ℕ → List ℕ → List ℕ → Bool
-readable chunk edits h bindings buffers variables types = isReadable (held chunk edits h bindings buffers variables types)
+readable chunk edits h bindings buffers variables types = isReadable (tableContents chunk edits h bindings buffers variables types)

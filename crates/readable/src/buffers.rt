@@ -1,6 +1,6 @@
 // The records of the buffers' table.
 ghost use mathlib.Core.Path.{_≡_};
-ghost use Rattle.readable.specs.Checks.{buffersHeld};
+ghost use Rattle.readable.specs.Checks.{buffersChecked};
 use crate::names::name_readable;
 
 // Whether the first `count` buffers are readable, and count as many variables as there are.
@@ -11,7 +11,7 @@ pub(crate) fn buffers_readable(
     count: u32,
     variables: u32,
 ) -> bool
-    ensures { λ r. ⌜ r ≡ buffersHeld (now (chunk .entry)) (now (edits .entry)) (now (table .entry)) 0 count variables ⌝ }
+    ensures { λ r. ⌜ r ≡ buffersChecked (now (chunk .entry)) (now (edits .entry)) (now (table .entry)) 0 count variables ⌝ }
 {
     let mut i: usize = 0;
     let mut left = count;

@@ -1,9 +1,9 @@
 // The header of a reflection: the version, the RD11 words, the creator, and how many records each table has.
 ghost use mathlib.Core.Path.{_≡_};
 ghost use Prim.Native.Nat.{_<_};
-ghost use Rattle.reflection.specs.Decode.{rd11From};
+ghost use Rattle.reflection.specs.Decode.{rd11FromHeader};
 ghost use Rattle.readable.specs.Readable.{versionReadable, rd11Absent};
-ghost use Rattle.readable.specs.Checks.{countHeld, countsHeld, headerHeld};
+ghost use Rattle.readable.specs.Checks.{countChecked, countsChecked, headerChecked};
 use crate::both;
 use crate::names::name_readable;
 use crate::same;
@@ -40,7 +40,7 @@ fn rd11_absent(def: ResourceDef) -> bool
 
 // Whether the major version is 4, or 5 with RD11 words that are allowed.
 fn version_readable(def: ResourceDef) -> bool
-    ensures { λ r. ⌜ r ≡ versionReadable (def .«target_version») (rd11From def) ⌝ }
+    ensures { λ r. ⌜ r ≡ versionReadable (def .«target_version») (rd11FromHeader def) ⌝ }
 {
     let rd11 = def.rd11;
     if reflection::is_sm5(def) {
@@ -60,7 +60,7 @@ fn version_readable(def: ResourceDef) -> bool
 
 // Whether the buffers' lengths, the version, the RD11 words and the creator are readable.
 pub(crate) fn header_readable(chunk: &[u8], edits: &[u8], def: ResourceDef) -> bool
-    ensures { λ r. ⌜ r ≡ headerHeld (now (chunk .entry)) (now (edits .entry)) def ⌝ }
+    ensures { λ r. ⌜ r ≡ headerChecked (now (chunk .entry)) (now (edits .entry)) def ⌝ }
 {
     if CHUNK_LIMIT < chunk.len() {
         return false;
@@ -77,7 +77,7 @@ pub(crate) fn header_readable(chunk: &[u8], edits: &[u8], def: ResourceDef) -> b
 // Whether a table of so many words holds n records, and there is room for them.
 fn count_readable(n: u32, long: usize, width: usize, most: usize) -> bool
     requires { ⌜ 0 < width ⌝ }
-    ensures { λ r. ⌜ r ≡ countHeld width long most n ⌝ }
+    ensures { λ r. ⌜ r ≡ countChecked width long most n ⌝ }
 {
     let count = n as usize;
     if count <= long / width {
@@ -95,7 +95,7 @@ pub(crate) fn counts_readable(
     variables: usize,
     types: usize,
 ) -> bool
-    ensures { λ r. ⌜ r ≡ countsHeld def bindings buffers variables types ⌝ }
+    ensures { λ r. ⌜ r ≡ countsChecked def bindings buffers variables types ⌝ }
 {
     let b = count_readable(def.binding_count, bindings, BINDING_WORDS, BINDING_ROOM);
     let f = count_readable(def.buffer_count, buffers, BUFFER_WORDS, BUFFER_ROOM);

@@ -4,7 +4,7 @@ ghost use mathlib.Core.Bool.{_&&_};
 ghost use lib.ListN.{length};
 ghost use Rattle.words.specs.Parts.{inside, part};
 ghost use Rattle.readable.specs.Readable.{nameReadable};
-ghost use Rattle.readable.specs.Checks.{nameHeld, defaultHeld};
+ghost use Rattle.readable.specs.Checks.{nameChecked, defaultChecked};
 use crate::both;
 use crate::either;
 use crate::same;
@@ -23,7 +23,7 @@ fn part_readable(s: &[u8], place: usize, n: usize) -> bool
 
 // Whether a name lies in its buffer and is UTF-8 without NUL.
 pub(crate) fn name_readable(chunk: &[u8], edits: &[u8], name: Text) -> bool
-    ensures { λ r. ⌜ r ≡ nameHeld (now (chunk .entry)) (now (edits .entry)) name ⌝ }
+    ensures { λ r. ⌜ r ≡ nameChecked (now (chunk .entry)) (now (edits .entry)) name ⌝ }
 {
     let place = name.place as usize;
     let length = name.length as usize;
@@ -38,7 +38,7 @@ pub(crate) fn name_readable(chunk: &[u8], edits: &[u8], name: Text) -> bool
 
 // Whether a default lies in its buffer and is empty or of its variable's size.
 pub(crate) fn default_readable(chunk: &[u8], edits: &[u8], size: u32, default: Text) -> bool
-    ensures { λ r. ⌜ r ≡ defaultHeld (now (chunk .entry)) (now (edits .entry)) size default ⌝ }
+    ensures { λ r. ⌜ r ≡ defaultChecked (now (chunk .entry)) (now (edits .entry)) size default ⌝ }
 {
     let sized = either(same(default.length, 0), same(default.length, size));
     both(reflection::in_place(chunk, edits, default), sized)

@@ -2,9 +2,9 @@
 ghost use mathlib.Core.Path.{_≡_};
 ghost use mathlib.Core.Bool.{true};
 ghost use Prim.Native.Nat.{_-_, _≤_};
-ghost use Rattle.reflection.specs.Decode.{nodeFrom};
+ghost use Rattle.reflection.specs.Decode.{nodeFromTable};
 ghost use Rattle.readable.specs.Readable.{numbersReadable};
-ghost use Rattle.readable.specs.Checks.{nodeHeld, membersLeft, typeLeft, nodesFrom, Walked};
+ghost use Rattle.readable.specs.Checks.{nodeChecked, membersLeft, typeLeft, nodesFrom, NodesWalked};
 use crate::Walk;
 use crate::at_most;
 use crate::both;
@@ -15,7 +15,7 @@ use reflection::TypeDesc;
 
 // Whether a type's numbers are readable: 16-bit fields, and for major 4 no extra words.
 fn numbers_readable(sm5: bool, t: TypeDesc) -> bool
-    ensures { λ r. ⌜ r ≡ numbersReadable sm5 (nodeFrom t .numbers) ⌝ }
+    ensures { λ r. ⌜ r ≡ numbersReadable sm5 (nodeFromTable t .numbers) ⌝ }
 {
     let sizes = both(
         at_most(t.rows, 65535),
@@ -37,7 +37,7 @@ fn numbers_readable(sm5: bool, t: TypeDesc) -> bool
 
 // Whether a node is readable: its numbers, its name (for major 4 empty) and, of a member, its name as a member.
 fn node_readable(chunk: &[u8], edits: &[u8], sm5: bool, inner: bool, t: TypeDesc) -> bool
-    ensures { λ r. ⌜ r ≡ nodeHeld (now (chunk .entry)) (now (edits .entry)) sm5 inner (nodeFrom t) ⌝ }
+    ensures { λ r. ⌜ r ≡ nodeChecked (now (chunk .entry)) (now (edits .entry)) sm5 inner (nodeFromTable t) ⌝ }
 {
     let numbers = numbers_readable(sm5, t);
     let count = at_most(t.member_count, 65535);
@@ -61,8 +61,8 @@ pub(crate) fn check_type(
     k: usize,
 ) -> Walk
     requires { ⌜ k ≤ count ⌝ }
-    ensures { λ r. ⌜ Walked
-        (typeLeft (nodeHeld (now (chunk .entry)) (now (edits .entry)) sm5) inner levels (nodesFrom (now (types .entry)) k (count - k)))
+    ensures { λ r. ⌜ NodesWalked
+        (typeLeft (nodeChecked (now (chunk .entry)) (now (edits .entry)) sm5) inner levels (nodesFrom (now (types .entry)) k (count - k)))
         (now (types .entry)) count r ⌝ }
 {
     if levels == 0 {
@@ -99,8 +99,8 @@ fn check_members(
     k: usize,
 ) -> Walk
     requires { ⌜ k ≤ count ⌝ }
-    ensures { λ r. ⌜ Walked
-        (membersLeft (typeLeft (nodeHeld (now (chunk .entry)) (now (edits .entry)) sm5) true levels) n (nodesFrom (now (types .entry)) k (count - k)))
+    ensures { λ r. ⌜ NodesWalked
+        (membersLeft (typeLeft (nodeChecked (now (chunk .entry)) (now (edits .entry)) sm5) true levels) n (nodesFrom (now (types .entry)) k (count - k)))
         (now (types .entry)) count r ⌝ }
 {
     let mut next = k;

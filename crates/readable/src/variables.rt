@@ -1,6 +1,6 @@
 // The records of the variables' table, each with the nodes of its type.
 ghost use mathlib.Core.Path.{_≡_};
-ghost use Rattle.readable.specs.Checks.{variableHeld, variablesHeld};
+ghost use Rattle.readable.specs.Checks.{variableChecked, variablesChecked};
 use crate::Walk;
 use crate::both;
 use crate::either;
@@ -13,7 +13,7 @@ use reflection::TYPE_LEVELS;
 
 // Whether a variable is readable, its type aside: its name, its default and, for major 4, that it has no slots.
 fn variable_readable(chunk: &[u8], edits: &[u8], sm5: bool, v: CBufferVariable) -> bool
-    ensures { λ r. ⌜ r ≡ variableHeld (now (chunk .entry)) (now (edits .entry)) sm5 v ⌝ }
+    ensures { λ r. ⌜ r ≡ variableChecked (now (chunk .entry)) (now (edits .entry)) sm5 v ⌝ }
 {
     let textures = both(same(v.texture_start, 0), same(v.texture_size, 0));
     let samplers = both(same(v.sampler_start, 0), same(v.sampler_size, 0));
@@ -34,7 +34,7 @@ pub(crate) fn variables_readable(
     count: u32,
     nodes: u32,
 ) -> bool
-    ensures { λ r. ⌜ r ≡ variablesHeld (now (chunk .entry)) (now (edits .entry)) sm5 (now (table .entry)) (now (types .entry)) 0 count 0 nodes ⌝ }
+    ensures { λ r. ⌜ r ≡ variablesChecked (now (chunk .entry)) (now (edits .entry)) sm5 (now (table .entry)) (now (types .entry)) 0 count 0 nodes ⌝ }
 {
     let end = nodes as usize;
     let mut i: usize = 0;

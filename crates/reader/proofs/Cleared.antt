@@ -11,7 +11,7 @@ use Rattle.reflection.specs.declared.Refusal.{Refusal}
 use Rattle.reflection.specs.declared.ResourceDef.{ResourceDef as Header}
 use Rattle.reflection.specs.Outcome.{Outcome, ok, refused}
 use Rattle.reflection.specs.Reflection.{ResourceDef}
-use Rattle.reflection.specs.Records.{bindingWords, bufferWords, variableWords, typeWords}
+use Rattle.reflection.specs.Records.{bindingWordsInTable, bufferWordsInTable, variableWordsInTable, typeWordsInTable}
 use Rattle.reflection.specs.Tables.{bindingRecord, bufferRecord, variableRecord, typeRecord, allVariables, allNodes, bindingRows, bufferRows, variableRows, typeRows, table, headerOf}
 use Rattle.reader.specs.declared.Parsed.{Parsed}
 use Rattle.reader.specs.declared.Parsed.the-variants.{Read, Refused}
@@ -23,19 +23,19 @@ use Rattle.reader.proofs.Rows.{rows-length, binding-width, buffer-width
 module _ (def : ResourceDef Text Text) where
   binding-words-counted : length (bindingRows def) ≡ headerOf def .«binding_count» * bindingWidth
   unfolding bindingRows headerOf
-  binding-words-counted = rows-length bindingWords bindingRecord bindingWidth binding-width (def .bindings)
+  binding-words-counted = rows-length bindingWordsInTable bindingRecord bindingWidth binding-width (def .bindings)
 
   buffer-words-counted : length (bufferRows def) ≡ headerOf def .«buffer_count» * bufferWidth
   unfolding bufferRows headerOf
-  buffer-words-counted = rows-length bufferWords bufferRecord bufferWidth buffer-width (def .constant-buffers)
+  buffer-words-counted = rows-length bufferWordsInTable bufferRecord bufferWidth buffer-width (def .constant-buffers)
 
   variable-words-counted : length (variableRows def) ≡ headerOf def .«variable_count» * variableWidth
   unfolding variableRows headerOf
-  variable-words-counted = rows-length variableWords variableRecord variableWidth variable-width (allVariables (def .constant-buffers))
+  variable-words-counted = rows-length variableWordsInTable variableRecord variableWidth variable-width (allVariables (def .constant-buffers))
 
   type-words-counted : length (typeRows def) ≡ headerOf def .«type_count» * typeWidth
   unfolding typeRows headerOf
-  type-words-counted = rows-length typeWords typeRecord typeWidth type-width (allNodes (allVariables (def .constant-buffers)))
+  type-words-counted = rows-length typeWordsInTable typeRecord typeWidth type-width (allNodes (allVariables (def .constant-buffers)))
 
 -- A table, cleared from a word on.
 abbrev ClearedFrom : ℕ → List ℕ → List ℕ → Type 0

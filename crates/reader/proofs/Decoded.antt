@@ -13,26 +13,28 @@ use Rattle.reflection.specs.declared.Text.{Text}
 use Rattle.reflection.specs.declared.ResourceDef.{ResourceDef as Header}
 use Rattle.reflection.specs.Outcome.{Outcome, ok, refused}
 use Rattle.reflection.specs.Reflection.{TypeDesc, Rd11, rd11, CBufferVariable, ResourceDef, majorOf}
-use Rattle.reflection.specs.Nodes.{Fits, FitsAll, typeLevels}
+use Rattle.reflection.specs.Nodes.{typeLevels}
+use Rattle.reflection.proofs.Levels.{Fits, FitsAll}
 use Rattle.reflection.specs.Tables.{allVariables, headerOf}
-use Rattle.reflection.specs.Decode.{TypesFit, decode, rd11From}
+use Rattle.reflection.specs.Decode.{decode, rd11FromHeader}
+use Rattle.reflection.proofs.Levels.{TypesFit}
 use Rattle.reflection.proofs.Decode.{rd11Of, rd11-of-header, decode-encoded}
-use Rattle.reading.specs.Step.{Room, Step, return, refuse}
-use Rattle.reading.specs.Read.{readMany, readMembers, readType, readVariable, variableFrom, variableStride, readBuffer, bufferFrom, readRd11, readTables, readChunk, withoutRoom, read}
+use Rattle.reading.specs.Step.{Room, ReadStep, return, refuse}
+use Rattle.reading.specs.Read.{readMany, readMembers, readType, readVariable, variableFromChunk, variableStride, readBuffer, bufferFromChunk, readRd11, readTables, readChunk, withoutRoom, read}
 use Rattle.reading.proofs.Steps.{Gives, then-gives, any-gives}
 use Rattle.reader.specs.Parsed.{readInto}
 use Rattle.reader.proofs.Held.{Held}
 
 -- What holds of a list, element by element.
 many-gives : {A : Type 0} (Q : A → Type 0) (P : List A → Type 0) → P [] → ((x : A) (xs : List A) → Q x → P xs → P (x ∷ xs))
-    → (read : ℕ → Step A) → ((at : ℕ) (r : Room) → Gives Q (read at r)) → (stride n at : ℕ) (r : Room) → Gives P (readMany read stride n at r)
+    → (read : ℕ → ReadStep A) → ((at : ℕ) (r : Room) → Gives Q (read at r)) → (stride n at : ℕ) (r : Room) → Gives P (readMany read stride n at r)
 unfolding readMany return
 many-gives Q P none more read h stride zero at r = none
 many-gives Q P none more read h stride (suc n) at r =
     then-gives Q P _ _ (h at) (λ x q. then-gives P P _ _ (many-gives Q P none more read h stride n (at + stride)) (λ xs p w. more x xs q p)) r
 
 -- Types have at most as many levels as were left.
-members-fit : (levels : ℕ) (readType : ℕ → Step (TypeDesc Text)) → ((at : ℕ) (r : Room) → Gives (λ t. Fits t levels) (readType at r))
+members-fit : (levels : ℕ) (readType : ℕ → ReadStep (TypeDesc Text)) → ((at : ℕ) (r : Room) → Gives (λ t. Fits t levels) (readType at r))
     → (s : List ℕ) (n at : ℕ) (r : Room) → Gives (λ ms. FitsAll ms levels) (readMembers readType s n at r)
 unfolding readMembers return FitsAll
 members-fit levels readType h s zero at r = tt
@@ -49,14 +51,14 @@ type-fits s sm5 (suc levels) path at r =
     any-gives (λ t. Fits t (suc levels)) _ _ (λ name w. all))))) r
 
 variable-fits : (s : List ℕ) (sm5 : Bool) (at : ℕ) (r : Room) → Gives (λ v. Fits (v .var-type) typeLevels) (readVariable s sm5 at r)
-unfolding readVariable variableFrom return
+unfolding readVariable variableFromChunk return
 variable-fits s sm5 at r =
     any-gives (λ v. Fits (v .var-type) typeLevels) _ _ (λ _. any-gives (λ v. Fits (v .var-type) typeLevels) _ _ (λ _.
     any-gives (λ v. Fits (v .var-type) typeLevels) _ _ (λ default. any-gives (λ v. Fits (v .var-type) typeLevels) _ _ (λ name.
     then-gives (λ t. Fits t typeLevels) (λ v. Fits (v .var-type) typeLevels) _ _ (type-fits s sm5 typeLevels [] _) (λ t fits w. fits))))) r
 
 buffer-fits : (s : List ℕ) (sm5 : Bool) (at : ℕ) (r : Room) → Gives (λ b. TypesFit (b .variables)) (readBuffer s sm5 at r)
-unfolding readBuffer bufferFrom return TypesFit
+unfolding readBuffer bufferFromChunk return TypesFit
 buffer-fits s sm5 at r =
     any-gives (λ b. TypesFit (b .variables)) _ _ (λ _. any-gives (λ b. TypesFit (b .variables)) _ _ (λ _.
     then-gives TypesFit (λ b. TypesFit (b .variables)) _ _
@@ -92,7 +94,7 @@ module _ (s : List ℕ) where
 -- What decoding asks of a reflection.
 pub record Decodable (d : ResourceDef Text Text) : Type 0 where
   pub fits : TypesFit (allVariables (d .constant-buffers))
-  pub words : d .rd11 ≡ rd11From (headerOf d)
+  pub words : d .rd11 ≡ rd11FromHeader (headerOf d)
 
 tables-decodable : (s : List ℕ) (creator : Text) (words : Rd11) → OfMajor s words → (r : Room) → Gives Decodable (readTables s creator words r)
 unfolding readTables return

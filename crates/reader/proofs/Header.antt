@@ -11,7 +11,7 @@ use lib.ListN.{length}
 use Rattle.words.specs.Words.{wordAt}
 use Rattle.text.specs.declared.Found.{Found}
 use Rattle.text.specs.declared.Found.the-variants.{At, Bad}
-use Rattle.text.specs.Strings.{cstringAt, Within}
+use Rattle.text.specs.Strings.{cstringAt, FoundWithin}
 use Rattle.reflection.specs.Limits.{chunkLimit}
 use Rattle.reflection.specs.Strides.{headerSize, rd11HeaderSize, bindingStride}
 use Rattle.reflection.specs.Refusals.{chunkTooShort, chunkTooLong, badVersion, badCreator, rd11Missing, badRd11}
@@ -19,10 +19,10 @@ use Rattle.reflection.specs.declared.Text.{Text}
 use Rattle.reflection.specs.Outcome.{Outcome, ok, refused, because}
 use Rattle.reflection.specs.Reflection.{Rd11, ResourceDef, isWide}
 use Rattle.reflection.specs.Texts.{inChunk}
-use Rattle.reading.specs.Step.{Room, Step, andThen, _>>=_, return, textOr}
+use Rattle.reading.specs.Step.{Room, ReadStep, andThen, _>>=_, return, textOr}
 use Rattle.reading.specs.Read.{majorOf, chunkRd11Allowed, readRd11, readTables, readChunk}
 use Rattle.reading.proofs.Steps.{check-holds, check-fails, bind-is, text-found, text-bad}
-use Rattle.reader.specs.Header.{rd11From, rd11Fault}
+use Rattle.reader.specs.Header.{rd11FromChunk, rd11Fault}
 
 -- The tests that the code makes, on the words that it read.
 pub same-is : (x : ℕ) {w word : ℕ} {r : Bool} → w ≡ word → r ≡ eqb w x → r ≡ eqb word x
@@ -48,11 +48,11 @@ module _ (s : List ℕ) where
   module _ (r : Room) where
     -- a fault refuses, no fault gives the words
     abbrev byFault : ℕ → Outcome (Rd11 × Room)
-    byFault zero = ok (rd11From s true, r)
+    byFault zero = ok (rd11FromChunk s true, r)
     byFault (suc e) = refused (because (suc e))
 
     rd11-by-fault : readRd11 s true r ≡ byFault (rd11Fault s)
-    unfolding readRd11 return rd11From
+    unfolding readRd11 return rd11FromChunk
     rd11-by-fault = go (leb rd11HeaderSize (length s)) refl (chunkRd11Allowed s) refl
       where
         go : (long : Bool) → leb rd11HeaderSize (length s) ≡ long → (allowed : Bool) → chunkRd11Allowed s ≡ allowed → readRd11 s true r ≡ byFault (rd11Fault s)
@@ -60,15 +60,15 @@ module _ (s : List ℕ) where
         go true p false q = check-holds _ _ _ _ p ∙ check-fails _ _ _ _ q ∙ sym (ap byFault (fault-not-allowed (leb-true rd11HeaderSize (length s) p) q))
         go true p true q = check-holds _ _ _ _ p ∙ check-holds _ _ _ _ q ∙ sym (ap byFault (fault-none (leb-true rd11HeaderSize (length s) p) q))
 
-    rd11-read : rd11Fault s ≡ 0 → readRd11 s true r ≡ ok (rd11From s true, r)
+    rd11-read : rd11Fault s ≡ 0 → readRd11 s true r ≡ ok (rd11FromChunk s true, r)
     rd11-read h = rd11-by-fault ∙ ap byFault h
 
     rd11-refused : (e : ℕ) → rd11Fault s ≡ e → 0 < e → readRd11 s true r ≡ refused (because e)
     rd11-refused zero q h = absurd (omega arith)
     rd11-refused (suc e) q h = rd11-by-fault ∙ ap byFault q
 
-    rd11-none : readRd11 s false r ≡ ok (rd11From s false, r)
-    unfolding readRd11 return rd11From
+    rd11-none : readRd11 s false r ≡ ok (rd11FromChunk s false, r)
+    unfolding readRd11 return rd11FromChunk
     rd11-none = refl
 
 abbrev pub majorAt : List ℕ → ℕ
@@ -88,8 +88,8 @@ module _ (s : List ℕ) {version major : ℕ} (version-is : version ≡ wordAt s
 pub creator-is : (s : List ℕ) {offset : ℕ} {found x : Found} → offset ≡ wordAt s 24 → found ≡ cstringAt s offset → found ≡ x → cstringAt s (wordAt s 24) ≡ x
 creator-is s offset-is h e = ap (cstringAt s) (sym offset-is) ∙ sym h ∙ e
 
-pub creator-fits : (s : List ℕ) {found : Found} (place n : ℕ) → length s ≤ chunkLimit → Within (length s) found → found ≡ At place n → place + n ≤ chunkLimit
-creator-fits s place n short within e = let h : place + n ≤ length s = subst (Within (length s)) e within in omega arith
+pub creator-fits : (s : List ℕ) {found : Found} (place n : ℕ) → length s ≤ chunkLimit → FoundWithin (length s) found → found ≡ At place n → place + n ≤ chunkLimit
+creator-fits s place n short within e = let h : place + n ≤ length s = subst (FoundWithin (length s)) e within in omega arith
 
 module _ (s : List ℕ) where
   pub refused-too-short : length s < headerSize → (r : Room) → readChunk s r ≡ refused (because chunkTooShort)
@@ -128,20 +128,20 @@ module _ (s : List ℕ) where
           refused-rd11 five e q h r =
               from-rd11 true five r ∙ ap (λ (x : Outcome (Rd11 × Room)). andThen x (readTables s (inChunk place n))) (rd11-refused s r e q h)
 
-          pub valid-major5 : {text : Text} → text ≡ inChunk place n → eqb (majorAt s) 5 ≡ true → rd11Fault s ≡ 0 → (r : Room) → readChunk s r ≡ readTables s text (rd11From s true) r
+          pub valid-major5 : {text : Text} → text ≡ inChunk place n → eqb (majorAt s) 5 ≡ true → rd11Fault s ≡ 0 → (r : Room) → readChunk s r ≡ readTables s text (rd11FromChunk s true) r
           valid-major5 is-text five h r =
               from-rd11 true five r ∙ ap (λ (x : Outcome (Rd11 × Room)). andThen x (readTables s (inChunk place n))) (rd11-read s r h)
-              ∙ ap (λ (x : Text). readTables s x (rd11From s true) r) (sym is-text)
+              ∙ ap (λ (x : Text). readTables s x (rd11FromChunk s true) r) (sym is-text)
 
-          pub valid-major4 : {text : Text} → text ≡ inChunk place n → eqb (majorAt s) 5 ≡ false → (r : Room) → readChunk s r ≡ readTables s text (rd11From s false) r
+          pub valid-major4 : {text : Text} → text ≡ inChunk place n → eqb (majorAt s) 5 ≡ false → (r : Room) → readChunk s r ≡ readTables s text (rd11FromChunk s false) r
           valid-major4 is-text four r =
               from-rd11 false four r ∙ ap (λ (x : Outcome (Rd11 × Room)). andThen x (readTables s (inChunk place n))) (rd11-none s r)
-              ∙ ap (λ (x : Text). readTables s x (rd11From s false) r) (sym is-text)
+              ∙ ap (λ (x : Text). readTables s x (rd11FromChunk s false) r) (sym is-text)
 
-pub wide-major5 : (s : List ℕ) (wide : Bool) → wide ≡ eqb (wordAt s 40) (bindingStride true) → wide ≡ isWide (rd11From s true)
-unfolding rd11From
+pub wide-major5 : (s : List ℕ) (wide : Bool) → wide ≡ eqb (wordAt s 40) (bindingStride true) → wide ≡ isWide (rd11FromChunk s true)
+unfolding rd11FromChunk
 wide-major5 s wide h = h
 
-pub wide-major4 : (s : List ℕ) → false ≡ isWide (rd11From s false)
-unfolding rd11From
+pub wide-major4 : (s : List ℕ) → false ≡ isWide (rd11FromChunk s false)
+unfolding rd11FromChunk
 wide-major4 s = refl

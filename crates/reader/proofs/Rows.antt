@@ -13,7 +13,7 @@ use Rattle.reflection.specs.declared.TypeDesc.{TypeDesc as TypeRecord}
 use Rattle.reflection.specs.Reflection.{TypeDesc, typeDesc, Members, noMember, member, memberCount, CBufferVariable, CBufferDef, ResourceBinding}
 use Rattle.reflection.specs.Texts.{inChunk}
 use Rattle.reflection.specs.Nodes.{Node, nodesOf, nodesOfMembers}
-use Rattle.reflection.specs.Records.{bindingWords, bufferWords, variableWords, typeWords, joined}
+use Rattle.reflection.specs.Records.{bindingWordsInTable, bufferWordsInTable, variableWordsInTable, typeWordsInTable, joined}
 use Rattle.reflection.specs.Tables.{bindingRecord, bufferRecord, variableRecord, typeRecord, allVariables, allNodes}
 use Rattle.reflection.proofs.Joined.{length-joined}
 use Rattle.type_walk.specs.Progress.{appendAll}
@@ -41,27 +41,27 @@ module _ {A R : Type 0} (words : R → List ℕ) (record-of : A → R) where
   rows-length width h xs = length-joined width words h (map record-of xs) ∙ ap (λ (n : ℕ). n * width) (length-map xs record-of)
 
 -- How many words each record has.
-pub binding-width : (x : BindingRecord) → length (bindingWords x) ≡ bindingWidth
-unfolding bindingWords
+pub binding-width : (x : BindingRecord) → length (bindingWordsInTable x) ≡ bindingWidth
+unfolding bindingWordsInTable
 binding-width x = refl
 
-pub buffer-width : (x : BufferRecord) → length (bufferWords x) ≡ bufferWidth
-unfolding bufferWords
+pub buffer-width : (x : BufferRecord) → length (bufferWordsInTable x) ≡ bufferWidth
+unfolding bufferWordsInTable
 buffer-width x = refl
 
-pub variable-width : (x : VariableRecord) → length (variableWords x) ≡ variableWidth
-unfolding variableWords
+pub variable-width : (x : VariableRecord) → length (variableWordsInTable x) ≡ variableWidth
+unfolding variableWordsInTable
 variable-width x = refl
 
-pub type-width : (x : TypeRecord) → length (typeWords x) ≡ typeWidth
-unfolding typeWords
+pub type-width : (x : TypeRecord) → length (typeWordsInTable x) ≡ typeWidth
+unfolding typeWordsInTable
 type-width x = refl
 
 abbrev pub nodeRows : List (Node Text) → List ℕ
-nodeRows = rowsOfAll typeWords typeRecord
+nodeRows = rowsOfAll typeWordsInTable typeRecord
 
 abbrev pub variableRowsOf : List (CBufferVariable Text Text) → List ℕ
-variableRowsOf = rowsOfAll variableWords variableRecord
+variableRowsOf = rowsOfAll variableWordsInTable variableRecord
 
 -- A type appends the rows of its nodes.
 mutual
@@ -70,20 +70,20 @@ mutual
   type-appends-rows : (mn : Text) (mo : ℕ) (t : TypeDesc Text) (w : List ℕ) → appendType mn mo t w ≡ w ++ nodeRows (nodesOf mn mo t)
   type-appends-rows mn mo (typeDesc k n ms) w =
       let node : Node Text = record { numbers = k; member-count = memberCount ms; name = n; member-name = mn; member-offset = mo } in
-      members-append-rows ms (w ++ typeWords (typeRecord node)) ∙ append-assoc w (typeWords (typeRecord node)) (nodeRows (nodesOfMembers ms))
+      members-append-rows ms (w ++ typeWordsInTable (typeRecord node)) ∙ append-assoc w (typeWordsInTable (typeRecord node)) (nodeRows (nodesOfMembers ms))
 
   members-append-rows : (ms : Members Text) (w : List ℕ) → appendMembers ms w ≡ w ++ nodeRows (nodesOfMembers ms)
   members-append-rows noMember w = sym (append-nil w)
   members-append-rows (member n o t ms) w =
       members-append-rows ms (appendType n o t w)
       ∙ ap (λ (l : List ℕ). l ++ nodeRows (nodesOfMembers ms)) (type-appends-rows n o t w)
-      ∙ rows-append-after typeWords typeRecord w (nodesOf n o t) (nodesOfMembers ms)
+      ∙ rows-append-after typeWordsInTable typeRecord w (nodesOf n o t) (nodesOfMembers ms)
 
-pub bindings-append-rows : (xs : List (ResourceBinding Text)) (w : List ℕ) → appendAll appendBinding xs w ≡ w ++ rowsOfAll bindingWords bindingRecord xs
+pub bindings-append-rows : (xs : List (ResourceBinding Text)) (w : List ℕ) → appendAll appendBinding xs w ≡ w ++ rowsOfAll bindingWordsInTable bindingRecord xs
 unfolding appendAll appendBinding joined
 bindings-append-rows [] w = sym (append-nil w)
 bindings-append-rows (x ∷ xs) w =
-    bindings-append-rows xs (w ++ bindingWords (bindingRecord x)) ∙ append-assoc w (bindingWords (bindingRecord x)) (rowsOfAll bindingWords bindingRecord xs)
+    bindings-append-rows xs (w ++ bindingWordsInTable (bindingRecord x)) ∙ append-assoc w (bindingWordsInTable (bindingRecord x)) (rowsOfAll bindingWordsInTable bindingRecord xs)
 
 -- Variables append their rows, and the rows of their types' nodes.
 variables-append-rows : (xs : List (CBufferVariable Text Text)) (w : List ℕ × List ℕ)
@@ -92,12 +92,12 @@ unfolding appendAll appendVariable joined allNodes
 variables-append-rows [] w = λ i. (sym (append-nil (w .0)) i, sym (append-nil (w .1)) i)
 variables-append-rows (x ∷ xs) w =
     let own = nodesOf (inChunk 0 0) 0 (x .var-type) in
-    let rows : (w .0 ++ variableWords (variableRecord x)) ++ variableRowsOf xs ≡ w .0 ++ variableRowsOf (x ∷ xs) =
-    append-assoc (w .0) (variableWords (variableRecord x)) (variableRowsOf xs) in
+    let rows : (w .0 ++ variableWordsInTable (variableRecord x)) ++ variableRowsOf xs ≡ w .0 ++ variableRowsOf (x ∷ xs) =
+    append-assoc (w .0) (variableWordsInTable (variableRecord x)) (variableRowsOf xs) in
     let nodes : appendType (inChunk 0 0) 0 (x .var-type) (w .1) ++ nodeRows (allNodes xs) ≡ w .1 ++ nodeRows (own ++ allNodes xs) =
     ap (λ (l : List ℕ). l ++ nodeRows (allNodes xs)) (type-appends-rows (inChunk 0 0) 0 (x .var-type) (w .1))
-    ∙ rows-append-after typeWords typeRecord (w .1) own (allNodes xs) in
-    variables-append-rows xs (w .0 ++ variableWords (variableRecord x), appendType (inChunk 0 0) 0 (x .var-type) (w .1)) ∙ λ i. (rows i, nodes i)
+    ∙ rows-append-after typeWordsInTable typeRecord (w .1) own (allNodes xs) in
+    variables-append-rows xs (w .0 ++ variableWordsInTable (variableRecord x), appendType (inChunk 0 0) 0 (x .var-type) (w .1)) ∙ λ i. (rows i, nodes i)
 
 nodes-append : (xs ys : List (CBufferVariable Text Text)) → allNodes (xs ++ ys) ≡ allNodes xs ++ allNodes ys
 unfolding allNodes
@@ -109,19 +109,19 @@ nodes-append (x ∷ xs) ys =
 -- Buffers append their rows, those of their variables, and those of the variables' types.
 pub buffers-append-rows : (xs : List (CBufferDef Text Text)) (w : List ℕ × (List ℕ × List ℕ))
     → appendAll appendBuffer xs w
-    ≡ (w .0 ++ rowsOfAll bufferWords bufferRecord xs, (w .1 .0 ++ variableRowsOf (allVariables xs), w .1 .1 ++ nodeRows (allNodes (allVariables xs))))
+    ≡ (w .0 ++ rowsOfAll bufferWordsInTable bufferRecord xs, (w .1 .0 ++ variableRowsOf (allVariables xs), w .1 .1 ++ nodeRows (allNodes (allVariables xs))))
 unfolding appendAll appendBuffer joined allVariables allNodes
 buffers-append-rows [] w = λ i. (sym (append-nil (w .0)) i, (sym (append-nil (w .1 .0)) i, sym (append-nil (w .1 .1)) i))
 buffers-append-rows (x ∷ xs) w =
     let own = x .variables in
     let others = allVariables xs in
-    let rows : (w .0 ++ bufferWords (bufferRecord x)) ++ rowsOfAll bufferWords bufferRecord xs ≡ w .0 ++ rowsOfAll bufferWords bufferRecord (x ∷ xs) =
-    append-assoc (w .0) (bufferWords (bufferRecord x)) (rowsOfAll bufferWords bufferRecord xs) in
+    let rows : (w .0 ++ bufferWordsInTable (bufferRecord x)) ++ rowsOfAll bufferWordsInTable bufferRecord xs ≡ w .0 ++ rowsOfAll bufferWordsInTable bufferRecord (x ∷ xs) =
+    append-assoc (w .0) (bufferWordsInTable (bufferRecord x)) (rowsOfAll bufferWordsInTable bufferRecord xs) in
     let variables : appendAll appendVariable own (w .1) .0 ++ variableRowsOf others ≡ w .1 .0 ++ variableRowsOf (own ++ others) =
     ap (λ (l : List ℕ × List ℕ). l .0 ++ variableRowsOf others) (variables-append-rows own (w .1))
-    ∙ rows-append-after variableWords variableRecord (w .1 .0) own others in
+    ∙ rows-append-after variableWordsInTable variableRecord (w .1 .0) own others in
     let nodes : appendAll appendVariable own (w .1) .1 ++ nodeRows (allNodes others) ≡ w .1 .1 ++ nodeRows (allNodes (own ++ others)) =
     ap (λ (l : List ℕ × List ℕ). l .1 ++ nodeRows (allNodes others)) (variables-append-rows own (w .1))
-    ∙ rows-append-after typeWords typeRecord (w .1 .1) (allNodes own) (allNodes others)
+    ∙ rows-append-after typeWordsInTable typeRecord (w .1 .1) (allNodes own) (allNodes others)
     ∙ ap (λ (l : List (Node Text)). w .1 .1 ++ nodeRows l) (sym (nodes-append own others)) in
-    buffers-append-rows xs (w .0 ++ bufferWords (bufferRecord x), appendAll appendVariable own (w .1)) ∙ λ i. (rows i, (variables i, nodes i))
+    buffers-append-rows xs (w .0 ++ bufferWordsInTable (bufferRecord x), appendAll appendVariable own (w .1)) ∙ λ i. (rows i, (variables i, nodes i))

@@ -16,9 +16,9 @@ use Rattle.reflection.specs.declared.Refusal.{Refusal}
 use Rattle.reflection.specs.declared.ResourceDef.{ResourceDef as Header}
 use Rattle.reflection.specs.Outcome.{Outcome, ok, refused}
 use Rattle.reflection.specs.Reflection.{Rd11, ResourceBinding, CBufferDef, ResourceDef, isSm5, isWide, identifierOf, strideOf, slotsOf}
-use Rattle.reflection.specs.Records.{bindingWords, bufferWords, variableWords, typeWords}
+use Rattle.reflection.specs.Records.{bindingWordsInTable, bufferWordsInTable, variableWordsInTable, typeWordsInTable}
 use Rattle.reflection.specs.Tables.{bindingRecord, bufferRecord, variableRecord, typeRecord, allVariables, allNodes, bindingRows, bufferRows, variableRows, typeRows, headerOf}
-use Rattle.reading.specs.Step.{Room, room, roomOf, Step, andThen, _>>=_, return}
+use Rattle.reading.specs.Step.{Room, room, roomOf, ReadStep, andThen, _>>=_, return}
 use Rattle.reading.specs.Read.{wordIf, readMany, readBinding, readBuffer, bindingStride, readTables, readChunk, withoutRoom, read}
 use Rattle.reading.proofs.Steps.{bind-is}
 use Rattle.type_walk.specs.declared.Walk.{Walk}
@@ -28,36 +28,36 @@ use Rattle.type_walk.specs.Walk.{GrewTo}
 use Rattle.table_walk.specs.declared.BuffersWalk.{BuffersWalk}
 use Rattle.table_walk.specs.declared.BuffersWalk.the-variants.{Filled as BuffersFilled, Halted}
 use Rattle.table_walk.specs.Bindings.{appendBinding, bindingsProgress, bindingsAnswered, WalkedBindings}
-use Rattle.table_walk.specs.Buffers.{Words, appendBuffer, buffersProgress, buffersAnswered, BuffersGrew, WalkedBuffers}
+use Rattle.table_walk.specs.Buffers.{TableWords, appendBuffer, buffersProgress, buffersAnswered, BuffersGrew, WalkedBuffers}
 use Rattle.reader.specs.declared.Parsed.{Parsed}
 use Rattle.reader.specs.declared.Parsed.the-variants.{Read, Refused}
 use Rattle.reader.specs.declared.ChunkHeader.{ChunkHeader}
 use Rattle.reader.specs.declared.ChunkHeader.the-variants.{Valid, Invalid}
 use Rattle.reader.specs.Parsed.{parsedOf, readInto}
-use Rattle.reader.specs.Header.{rd11From, Headed}
+use Rattle.reader.specs.Header.{rd11FromChunk, Headed}
 use Rattle.reader.specs.Filled.{rowsOf, Filled}
 use Rattle.reader.proofs.Rows.{rowsOfAll, rows-length, binding-width, buffer-width, variable-width, type-width, bindings-append-rows, buffers-append-rows}
 use Rattle.reader.proofs.Progress.{WasRead, stopped-refused, reached-read}
 
 -- What the RD11 words of a version say.
 module _ (s : List ℕ) where
-  sm5-is : (sm5 : Bool) → isSm5 (rd11From s sm5) ≡ sm5
-  unfolding rd11From
+  sm5-is : (sm5 : Bool) → isSm5 (rd11FromChunk s sm5) ≡ sm5
+  unfolding rd11FromChunk
   sm5-is true = refl
   sm5-is false = refl
 
-  identifier-is : (sm5 : Bool) → wordIf sm5 s 28 ≡ identifierOf (rd11From s sm5)
-  unfolding rd11From wordIf
+  identifier-is : (sm5 : Bool) → wordIf sm5 s 28 ≡ identifierOf (rd11FromChunk s sm5)
+  unfolding rd11FromChunk wordIf
   identifier-is true = refl
   identifier-is false = refl
 
-  stride-is : (sm5 : Bool) → wordIf sm5 s 40 ≡ strideOf (rd11From s sm5)
-  unfolding rd11From wordIf
+  stride-is : (sm5 : Bool) → wordIf sm5 s 40 ≡ strideOf (rd11FromChunk s sm5)
+  unfolding rd11FromChunk wordIf
   stride-is true = refl
   stride-is false = refl
 
-  slots-are : (sm5 : Bool) → wordIf sm5 s 56 ≡ slotsOf (rd11From s sm5)
-  unfolding rd11From wordIf
+  slots-are : (sm5 : Bool) → wordIf sm5 s 56 ≡ slotsOf (rd11FromChunk s sm5)
+  unfolding rd11FromChunk wordIf
   slots-are true = refl
   slots-are false = refl
 
@@ -76,7 +76,7 @@ pub bindings-within : {out : List ℕ → Room → Progress (List ℕ)} {capacit
     → WalkedBindings out capacity t answer → answer ≡ Next m → m ≤ capacity
 bindings-within {capacity = capacity} walked came = subst (GrewTo capacity 0) came (walked .grew) .high
 
-pub buffers-within : {out : Words → Room → Progress Words} {fcap vcap tcap x y z : ℕ} {f v t : List ℕ} {answer : BuffersWalk}
+pub buffers-within : {out : TableWords → Room → Progress TableWords} {fcap vcap tcap x y z : ℕ} {f v t : List ℕ} {answer : BuffersWalk}
     → WalkedBuffers out fcap vcap tcap f v t answer → answer ≡ BuffersFilled x y z → (x ≤ fcap) × ((y ≤ vcap) × (z ≤ tcap))
 buffers-within {fcap = fcap} {vcap} {tcap} walked came = let grew = subst (BuffersGrew fcap vcap tcap) came (walked .grew) in (grew .0 .high, (grew .1 .0 .high, grew .1 .1 .high))
 
@@ -108,21 +108,21 @@ module _ (s : List ℕ) {b f v t : List ℕ} {bcap fcap vcap tcap : ℕ} (capaci
   out = readInto s b f v t
 
   abbrev rd11 : Rd11
-  rd11 = rd11From s sm5
+  rd11 = rd11FromChunk s sm5
 
   abbrev start : Room
   start = room bcap fcap vcap tcap
 
-  abbrev readBindings : Step (List (ResourceBinding Text))
+  abbrev readBindings : ReadStep (List (ResourceBinding Text))
   readBindings = readMany (readBinding s (isWide rd11)) (bindingStride (isWide rd11)) (wordAt s 8) (wordAt s 12)
 
-  abbrev readBuffers : Step (List (CBufferDef Text Text))
+  abbrev readBuffers : ReadStep (List (CBufferDef Text Text))
   readBuffers = readMany (readBuffer s (isSm5 rd11)) bufferStride (wordAt s 0) (wordAt s 4)
 
   abbrev whole : List (ResourceBinding Text) → List (CBufferDef Text Text) → ResourceDef Text Text
   whole bs fs = record { target-version = wordAt s 16; compile-flags = wordAt s 20; rd11 = rd11; creator = creator; bindings = bs; constant-buffers = fs }
 
-  abbrev withBuffers : List (ResourceBinding Text) → Step (ResourceDef Text Text)
+  abbrev withBuffers : List (ResourceBinding Text) → ReadStep (ResourceDef Text Text)
   withBuffers bs = readBuffers >>= λ fs. return (whole bs fs)
 
   out-from-bindings : out ≡ withoutRoom (andThen (readBindings start) withBuffers)
@@ -166,7 +166,7 @@ module _ (s : List ℕ) {b f v t : List ℕ} {bcap fcap vcap tcap : ℕ} (capaci
       -- The buffers were walked.
       module _ {fcount ffirst : ℕ} (fcount-is : fcount ≡ wordAt s 0) (ffirst-is : ffirst ≡ wordAt s 4) {f₁ v₁ t₁ : List ℕ} {fanswer : BuffersWalk}
           (fwalked : WalkedBuffers (buffersProgress s sm5 fcount ffirst) fcap vcap tcap f₁ v₁ t₁ fanswer) where
-        abbrev buffersAnsweredBy : BuffersWalk → Progress Words
+        abbrev buffersAnsweredBy : BuffersWalk → Progress TableWords
         buffersAnsweredBy x = buffersAnswered fcap vcap tcap x f₁ v₁ t₁ (room (bcap - m))
 
         buffers-outcome : progress (appendAll appendBuffer) (readBuffers left) ([], ([], [])) ≡ buffersAnsweredBy fanswer
@@ -181,7 +181,7 @@ module _ (s : List ℕ) {b f v t : List ℕ} {bcap fcap vcap tcap : ℕ} (capaci
             (stopped-refused (appendAll appendBuffer) ([], ([], [])) (readBuffers left) e (buffers-outcome ∙ ap buffersAnsweredBy is)))
 
         module _ {x y z : ℕ} (fcame : fanswer ≡ BuffersFilled x y z) where
-          abbrev words : Words
+          abbrev words : TableWords
           words = (take (x * bufferWidth) f₁, (take (y * variableWidth) v₁, take (z * typeWidth) t₁))
 
           abbrev end : Room
@@ -203,7 +203,7 @@ module _ (s : List ℕ) {b f v t : List ℕ} {bcap fcap vcap tcap : ℕ} (capaci
           unfolding bindingRows
           binding-words = sym (bindings-append-rows (def .bindings) []) ∙ bindings-read .words
 
-          other-words : _≡_ {A = Words} (bufferRows def, (variableRows def, typeRows def)) words
+          other-words : _≡_ {A = TableWords} (bufferRows def, (variableRows def, typeRows def)) words
           unfolding bufferRows variableRows typeRows
           other-words = sym (buffers-append-rows (def .constant-buffers) ([], ([], []))) ∙ buffers-read .words
 
@@ -229,15 +229,15 @@ module _ (s : List ℕ) {b f v t : List ℕ} {bcap fcap vcap tcap : ℕ} (capaci
                 let fs = def .constant-buffers in
                 let within = buffers-within fwalked fcame in
                 let bs-count : m ≡ length (def .bindings) =
-                counted bindingWidth b₁ (omega arith) (omega (arith, bindings-within walked came, capacities .bindings, b-kept)) binding-words (rows-length bindingWords bindingRecord bindingWidth binding-width (def .bindings)) in
+                counted bindingWidth b₁ (omega arith) (omega (arith, bindings-within walked came, capacities .bindings, b-kept)) binding-words (rows-length bindingWordsInTable bindingRecord bindingWidth binding-width (def .bindings)) in
                 let fs-count : x ≡ length fs =
-                counted bufferWidth f₁ (omega arith) (omega (arith, within .0, capacities .buffers, f-kept)) (λ i. other-words i .0) (rows-length bufferWords bufferRecord bufferWidth buffer-width fs) in
+                counted bufferWidth f₁ (omega arith) (omega (arith, within .0, capacities .buffers, f-kept)) (λ i. other-words i .0) (rows-length bufferWordsInTable bufferRecord bufferWidth buffer-width fs) in
                 let vs-count : y ≡ length (allVariables fs) =
                 counted variableWidth v₁ (omega arith) (omega (arith, within .1 .0, capacities .variables, v-kept)) (λ i. other-words i .1 .0)
-                (rows-length variableWords variableRecord variableWidth variable-width (allVariables fs)) in
+                (rows-length variableWordsInTable variableRecord variableWidth variable-width (allVariables fs)) in
                 let ts-count : z ≡ length (allNodes (allVariables fs)) =
                 counted typeWidth t₁ (omega arith) (omega (arith, within .1 .1, capacities .types, t-kept)) (λ i. other-words i .1 .1)
-                (rows-length typeWords typeRecord typeWidth type-width (allNodes (allVariables fs))) in
+                (rows-length typeWordsInTable typeRecord typeWidth type-width (allNodes (allVariables fs))) in
                 λ i. record {
                   «target_version» = version-is i;
                   «compile_flags» = flags-is i;

@@ -1,3 +1,4 @@
+-- Vocabulary of internal contracts: no contract of an exported function and no demand cites it.
 -- What `read_tables` leaves: the answer, and in each table the records, whatever follows them.
 use mathlib.Core.Path.{_≡_}
 use mathlib.Core.List.{List}

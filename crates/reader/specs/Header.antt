@@ -1,3 +1,4 @@
+-- Vocabulary of internal contracts: no contract of an exported function and no demand cites it.
 -- What the header's reading says of the whole: the contract of `read_header`.
 use mathlib.Core.Path.{_≡_}
 use mathlib.Core.Bool.{Bool, true, false}
@@ -18,9 +19,9 @@ use Rattle.reader.specs.declared.ChunkHeader.{ChunkHeader}
 use Rattle.reader.specs.declared.ChunkHeader.the-variants.{Valid, Invalid}
 
 -- The RD11 words of a chunk of major 5; none of major 4.
-unfoldable pub rd11From : List ℕ → Bool → Rd11
-rd11From s false = noRd11
-rd11From s true = rd11 (wordAt s 28) (wordAt s 40) (wordAt s 56)
+unfoldable pub rd11FromChunk : List ℕ → Bool → Rd11
+rd11FromChunk s false = noRd11
+rd11FromChunk s true = rd11 (wordAt s 28) (wordAt s 40) (wordAt s 56)
 
 -- The refusal where the RD11 words are not there or not allowed, else 0.
 unfoldable pub rd11Fault : List ℕ → ℕ
@@ -30,4 +31,4 @@ rd11Fault s = elim (leb rd11HeaderSize (length s)) [ true ↦ elim (chunkRd11All
 abbrev pub Headed : List ℕ → ChunkHeader → Type 0
 Headed s (Invalid e) = (r : Room) → readChunk s r ≡ refused e
 Headed s (Valid creator sm5 wide) =
-    (length s ≤ chunkLimit) × ((wide ≡ isWide (rd11From s sm5)) × ((r : Room) → readChunk s r ≡ readTables s creator (rd11From s sm5) r))
+    (length s ≤ chunkLimit) × ((wide ≡ isWide (rd11FromChunk s sm5)) × ((r : Room) → readChunk s r ≡ readTables s creator (rd11FromChunk s sm5) r))

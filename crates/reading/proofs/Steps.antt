@@ -12,22 +12,22 @@ use Rattle.reflection.specs.Refusals.{noRoom}
 use Rattle.reflection.specs.Strides.{memberStride}
 use Rattle.reflection.specs.Reflection.{TypeDesc, Members, noMember, member, memberCount}
 use Rattle.reflection.specs.Texts.{inChunk}
-use Rattle.reading.specs.Step.{Room, room, Step, andThen, _>>=_, return, refuse, check, textOr, takeBinding, takeBuffer, takeVariable, takeType}
+use Rattle.reading.specs.Step.{Room, room, ReadStep, andThen, _>>=_, return, refuse, check, textOr, takeBinding, takeBuffer, takeVariable, takeType}
 use Rattle.reading.specs.Read.{readMany, readMembers}
 
-pub check-holds : {A : Type 0} (t : Bool) (n : ℕ) (f : Unit {0} → Step A) (room : Room) → t ≡ true → (check t n >>= f) room ≡ f tt room
+pub check-holds : {A : Type 0} (t : Bool) (n : ℕ) (f : Unit {0} → ReadStep A) (room : Room) → t ≡ true → (check t n >>= f) room ≡ f tt room
 unfolding check _>>=_ return
 check-holds t n f room e = rw e
 
-pub check-fails : {A : Type 0} (t : Bool) (n : ℕ) (f : Unit {0} → Step A) (room : Room) → t ≡ false → (check t n >>= f) room ≡ refused (because n)
+pub check-fails : {A : Type 0} (t : Bool) (n : ℕ) (f : Unit {0} → ReadStep A) (room : Room) → t ≡ false → (check t n >>= f) room ≡ refused (because n)
 unfolding check _>>=_ refuse
 check-fails t n f room e = rw e
 
-pub bind-is : {A B : Type 0} (m : Step A) (f : A → Step B) (room : Room) → (m >>= f) room ≡ andThen (m room) f
+pub bind-is : {A B : Type 0} (m : ReadStep A) (f : A → ReadStep B) (room : Room) → (m >>= f) room ≡ andThen (m room) f
 unfolding _>>=_
 bind-is m f room = refl
 
-module _ {A : Type 0} (n : ℕ) (x : Found) (f : Text → Step A) (room : Room) where
+module _ {A : Type 0} (n : ℕ) (x : Found) (f : Text → ReadStep A) (room : Room) where
   pub text-found : (place k : ℕ) → x ≡ At place k → (textOr n x >>= f) room ≡ f (inChunk place k) room
   unfolding _>>=_ textOr return
   text-found place k h = ap (λ (y : Found). andThen (textOr n y room) f) h
@@ -37,7 +37,7 @@ module _ {A : Type 0} (n : ℕ) (x : Found) (f : Text → Step A) (room : Room) 
   text-bad h = ap (λ (y : Found). andThen (textOr n y room) f) h
 
 -- A record is taken where there is room, and refused where there is none.
-module _ {A : Type 0} (b f v t : ℕ) (g : Unit {0} → Step A) where
+module _ {A : Type 0} (b f v t : ℕ) (g : Unit {0} → ReadStep A) where
   pub binding-none : (takeBinding >>= g) (room 0 f v t) ≡ refused (because noRoom)
   unfolding takeBinding _>>=_
   binding-none = refl
@@ -75,7 +75,7 @@ abbrev pub Gives : {A : Type 0} → (A → Type 0) → Outcome (A × Room) → T
 Gives P (ok z) = P (z .0)
 Gives P (refused e) = Unit {0}
 
-pub then-gives : {A B : Type 0} (Q : A → Type 0) (P : B → Type 0) (m : Step A) (f : A → Step B)
+pub then-gives : {A B : Type 0} (Q : A → Type 0) (P : B → Type 0) (m : ReadStep A) (f : A → ReadStep B)
     → ((r : Room) → Gives Q (m r)) → ((x : A) → Q x → (r : Room) → Gives P (f x r)) → (r : Room) → Gives P ((m >>= f) r)
 unfolding _>>=_
 then-gives {A} {B} Q P m f h g r = go (m r) (h r)
@@ -84,7 +84,7 @@ then-gives {A} {B} Q P m f h g r = go (m r) (h r)
     go (ok z) q = g (z .0) q (z .1)
     go (refused e) q = tt
 
-pub any-gives : {A B : Type 0} (P : B → Type 0) (m : Step A) (f : A → Step B) → ((x : A) (r : Room) → Gives P (f x r)) → (r : Room) → Gives P ((m >>= f) r)
+pub any-gives : {A B : Type 0} (P : B → Type 0) (m : ReadStep A) (f : A → ReadStep B) → ((x : A) (r : Room) → Gives P (f x r)) → (r : Room) → Gives P ((m >>= f) r)
 any-gives {A} {B} P m f g r = then-gives (λ _. Unit {0}) P m f (λ b. go (m b)) (λ x _. g x) r
   where
     go : (y : Outcome (A × Room)) → Gives (λ _. Unit {0}) y
@@ -92,14 +92,14 @@ any-gives {A} {B} P m f g r = then-gives (λ _. Unit {0}) P m f (λ b. go (m b))
     go (refused e) = tt
 
 -- As many members and records are read as were asked for.
-pub members-count : (readType : ℕ → Step (TypeDesc Text)) (s : List ℕ) (n at : ℕ) (r : Room) → Gives (λ ms. memberCount ms ≡ n) (readMembers readType s n at r)
+pub members-count : (readType : ℕ → ReadStep (TypeDesc Text)) (s : List ℕ) (n at : ℕ) (r : Room) → Gives (λ ms. memberCount ms ≡ n) (readMembers readType s n at r)
 unfolding readMembers memberCount return
 members-count readType s zero at r = refl
 members-count readType s (suc n) at r =
     any-gives (λ ms. memberCount ms ≡ suc n) _ _ (λ _. any-gives (λ ms. memberCount ms ≡ suc n) _ _ (λ nm. any-gives (λ ms. memberCount ms ≡ suc n) _ _ (λ t.
     then-gives (λ ms. memberCount ms ≡ n) (λ ms. memberCount ms ≡ suc n) _ _ (members-count readType s n (at + memberStride)) (λ ms e w. ap suc e)))) r
 
-pub many-length : {A : Type 0} (read : ℕ → Step A) (stride n at : ℕ) (r : Room) → Gives (λ xs. length xs ≡ n) (readMany read stride n at r)
+pub many-length : {A : Type 0} (read : ℕ → ReadStep A) (stride n at : ℕ) (r : Room) → Gives (λ xs. length xs ≡ n) (readMany read stride n at r)
 unfolding readMany return
 many-length read stride zero at r = refl
 many-length read stride (suc n) at r =

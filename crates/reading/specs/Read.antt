@@ -21,7 +21,7 @@ use Rattle.reflection.specs.Strides.{headerSize, rd11HeaderSize, bufferStride, 
 use Rattle.reflection.specs.Rd11.{rd11Allowed}
 use Rattle.reflection.specs.Limits.{typeLevels, chunkLimit}
 use Rattle.reflection.specs.Refusals.{chunkTooShort, chunkTooLong, badVersion, badCreator, rd11Missing, badRd11, recordPastEnd, badInputType, badDimension, badBindingFlags, badName, defaultPastEnd, typeTooDeep, typeCycle}
-use Rattle.reading.specs.Step.{Room, Step, _>>=_, return, refuse, check, textOr, takeBinding, takeBuffer, takeVariable, takeType}
+use Rattle.reading.specs.Step.{Room, ReadStep, _>>=_, return, refuse, check, textOr, takeBinding, takeBuffer, takeVariable, takeType}
 
 -- A word that only the longer record has; 0 in the other.
 unfoldable pub wordIf : Bool → List ℕ → ℕ → ℕ
@@ -29,7 +29,7 @@ wordIf false s at = 0
 wordIf true s at = wordAt s at
 
 -- n records from `at` on, one stride after the other. A count of 0 leaves the offset unread.
-unfoldable pub readMany : {A : Type 0} → (ℕ → Step A) → ℕ → ℕ → ℕ → Step (List A)
+unfoldable pub readMany : {A : Type 0} → (ℕ → ReadStep A) → ℕ → ℕ → ℕ → ReadStep (List A)
 readMany read stride zero at = return []
 readMany read stride (suc n) at = do
   x ← read at
@@ -42,7 +42,7 @@ onPath at [] = false
 onPath at (x ∷ xs) = eqb at x || onPath at xs
 
 -- n members: each a record, its name, then its type, which `readType` reads.
-unfoldable pub readMembers : (ℕ → Step (TypeDesc Text)) → List ℕ → ℕ → ℕ → Step (Members Text)
+unfoldable pub readMembers : (ℕ → ReadStep (TypeDesc Text)) → List ℕ → ℕ → ℕ → ReadStep (Members Text)
 readMembers readType s zero at = return noMember
 readMembers readType s (suc n) at = do
   _ ← check (inside (length s) at memberStride) recordPastEnd
@@ -76,7 +76,7 @@ numbersFrom s sm5 at = record {
 }
 
 -- The type at an offset, with so many levels left below the descriptors on `path`: depth, path, room, range, members, name.
-unfoldable pub readType : List ℕ → Bool → ℕ → List ℕ → ℕ → Step (TypeDesc Text)
+unfoldable pub readType : List ℕ → Bool → ℕ → List ℕ → ℕ → ReadStep (TypeDesc Text)
 readType s sm5 zero path at = refuse typeTooDeep
 readType s sm5 (suc levels) path at = do
   _ ← check (not (onPath at path)) typeCycle
@@ -92,8 +92,8 @@ defaultAt s zero size = At 0 0
 defaultAt s (suc offset) size = elim (inside (length s) (suc offset) size) [ true ↦ At (suc offset) size | false ↦ Bad ]
 
 -- What a variable's record says, with what its offsets lead to.
-unfoldable pub variableFrom : List ℕ → Bool → ℕ → Text → Text → TypeDesc Text → CBufferVariable Text Text
-variableFrom s sm5 at name default type = record {
+unfoldable pub variableFromChunk : List ℕ → Bool → ℕ → Text → Text → TypeDesc Text → CBufferVariable Text Text
+variableFromChunk s sm5 at name default type = record {
   name = name;
   offset = wordAt s (at + 4);
   size = wordAt s (at + 8);
@@ -107,31 +107,31 @@ variableFrom s sm5 at name default type = record {
 }
 
 -- A variable: room, record, default, name, type.
-unfoldable pub readVariable : List ℕ → Bool → ℕ → Step (CBufferVariable Text Text)
+unfoldable pub readVariable : List ℕ → Bool → ℕ → ReadStep (CBufferVariable Text Text)
 readVariable s sm5 at = do
   _ ← takeVariable
   _ ← check (inside (length s) at (variableStride sm5)) recordPastEnd
   default ← textOr defaultPastEnd (defaultAt s (wordAt s (at + 20)) (wordAt s (at + 8)))
   name ← textOr badName (cstringAt s (wordAt s at))
   type ← readType s sm5 typeLevels [] (wordAt s (at + 16))
-  return (variableFrom s sm5 at name default type)
+  return (variableFromChunk s sm5 at name default type)
 
 -- What a buffer's record says.
-unfoldable pub bufferFrom : List ℕ → ℕ → Text → List (CBufferVariable Text Text) → CBufferDef Text Text
-bufferFrom s at name variables = record { name = name; size = wordAt s (at + 12); flags = wordAt s (at + 16); cb-type = wordAt s (at + 20); variables = variables }
+unfoldable pub bufferFromChunk : List ℕ → ℕ → Text → List (CBufferVariable Text Text) → CBufferDef Text Text
+bufferFromChunk s at name variables = record { name = name; size = wordAt s (at + 12); flags = wordAt s (at + 16); cb-type = wordAt s (at + 20); variables = variables }
 
 -- A buffer: room, record, its variables, then its name.
-unfoldable pub readBuffer : List ℕ → Bool → ℕ → Step (CBufferDef Text Text)
+unfoldable pub readBuffer : List ℕ → Bool → ℕ → ReadStep (CBufferDef Text Text)
 readBuffer s sm5 at = do
   _ ← takeBuffer
   _ ← check (inside (length s) at bufferStride) recordPastEnd
   variables ← readMany (readVariable s sm5) (variableStride sm5) (wordAt s (at + 4)) (wordAt s (at + 8))
   name ← textOr badName (cstringAt s (wordAt s at))
-  return (bufferFrom s at name variables)
+  return (bufferFromChunk s at name variables)
 
 -- What a binding's record says; only the longer one has space and id.
-unfoldable pub bindingFrom : List ℕ → Bool → ℕ → Text → ResourceBinding Text
-bindingFrom s wide at name = record {
+unfoldable pub bindingFromChunk : List ℕ → Bool → ℕ → Text → ResourceBinding Text
+bindingFromChunk s wide at name = record {
   name = name;
   input-type = wordAt s (at + 4);
   return-type = wordAt s (at + 8);
@@ -145,7 +145,7 @@ bindingFrom s wide at name = record {
 }
 
 -- A binding: room, record, input type, dimension, flags, name. Its codes are in Microsoft's tables.
-unfoldable pub readBinding : List ℕ → Bool → ℕ → Step (ResourceBinding Text)
+unfoldable pub readBinding : List ℕ → Bool → ℕ → ReadStep (ResourceBinding Text)
 readBinding s wide at = do
   _ ← takeBinding
   _ ← check (inside (length s) at (bindingStride wide)) recordPastEnd
@@ -153,13 +153,13 @@ readBinding s wide at = do
   _ ← check (known srvDimensions (wordAt s (at + 12))) badDimension
   _ ← check (bindingFlagsAllowed (wordAt s (at + 28))) badBindingFlags
   name ← textOr badName (cstringAt s (wordAt s at))
-  return (bindingFrom s wide at name)
+  return (bindingFromChunk s wide at name)
 
 -- Whether the RD11 words are allowed: the identifier and the six sizes, which follow the header's first seven words.
 abbrev pub chunkRd11Allowed : List ℕ → Bool
 chunkRd11Allowed s = rd11Allowed (wordAt s 28) (wordAt s 32) (wordAt s 36) (wordAt s 40) (wordAt s 44) (wordAt s 48) (wordAt s 52)
 
-unfoldable pub readRd11 : List ℕ → Bool → Step Rd11
+unfoldable pub readRd11 : List ℕ → Bool → ReadStep Rd11
 readRd11 s false = return noRd11
 readRd11 s true = do
   _ ← check (leb rd11HeaderSize (length s)) rd11Missing
@@ -167,14 +167,14 @@ readRd11 s true = do
   return (rd11 (wordAt s 28) (wordAt s 40) (wordAt s 56))
 
 -- What follows the header: the bindings, then the buffers.
-unfoldable pub readTables : List ℕ → Text → Rd11 → Step (ResourceDef Text Text)
+unfoldable pub readTables : List ℕ → Text → Rd11 → ReadStep (ResourceDef Text Text)
 readTables s creator words = do
   bindings ← readMany (readBinding s (isWide words)) (bindingStride (isWide words)) (wordAt s 8) (wordAt s 12)
   buffers ← readMany (readBuffer s (isSm5 words)) bufferStride (wordAt s 0) (wordAt s 4)
   return (record { target-version = wordAt s 16; compile-flags = wordAt s 20; rd11 = words; creator = creator; bindings = bindings; constant-buffers = buffers })
 
 -- The chunk: its length, the major version, the creator, the RD11 words of major 5, the tables.
-unfoldable pub readChunk : List ℕ → Step (ResourceDef Text Text)
+unfoldable pub readChunk : List ℕ → ReadStep (ResourceDef Text Text)
 readChunk s = do
   _ ← check (leb headerSize (length s)) chunkTooShort
   _ ← check (leb (length s) chunkLimit) chunkTooLong

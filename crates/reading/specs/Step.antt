@@ -28,30 +28,30 @@ unfoldable pub roomOf : ℕ → ℕ → ℕ → ℕ → Room
 roomOf b f v t =
     room (min (b / bindingWidth) bindingRoom) (min (f / bufferWidth) bufferRoom) (min (v / variableWidth) variableRoom) (min (t / typeWidth) typeRoom)
 
-abbrev pub Step : Type 0 → Type 0
-Step A = Room → Outcome (A × Room)
+abbrev pub ReadStep : Type 0 → Type 0
+ReadStep A = Room → Outcome (A × Room)
 
-abbrev pub andThen : {A B : Type 0} → Outcome (A × Room) → (A → Step B) → Outcome (B × Room)
+abbrev pub andThen : {A B : Type 0} → Outcome (A × Room) → (A → ReadStep B) → Outcome (B × Room)
 andThen (ok p) f = f (p .0) (p .1)
 andThen (refused e) f = refused e
 
 infixl 20 _>>=_
-unfoldable pub _>>=_ : {A B : Type 0} → Step A → (A → Step B) → Step B
+unfoldable pub _>>=_ : {A B : Type 0} → ReadStep A → (A → ReadStep B) → ReadStep B
 _>>=_ m f r = andThen (m r) f
 
-unfoldable pub return : {A : Type 0} → A → Step A
+unfoldable pub return : {A : Type 0} → A → ReadStep A
 return a r = ok (a, r)
 
-unfoldable pub refuse : {A : Type 0} → ℕ → Step A
+unfoldable pub refuse : {A : Type 0} → ℕ → ReadStep A
 refuse n r = refused (because n)
 
 -- Goes on where the test holds.
-unfoldable pub check : Bool → ℕ → Step (Unit {0})
+unfoldable pub check : Bool → ℕ → ReadStep (Unit {0})
 check true n = return tt
 check false n = refuse n
 
 -- A text of the chunk, or refusal n where it is bad.
-unfoldable pub textOr : ℕ → Found → Step Text
+unfoldable pub textOr : ℕ → Found → ReadStep Text
 textOr n (At place k) = return (inChunk place k)
 textOr n Bad = refuse n
 
@@ -60,14 +60,14 @@ abbrev pub oneLess : ℕ → (ℕ → Room) → Outcome (Unit {0} × Room)
 oneLess zero left = refused (because noRoom)
 oneLess (suc n) left = ok (tt, left n)
 
-unfoldable pub takeBinding : Step (Unit {0})
+unfoldable pub takeBinding : ReadStep (Unit {0})
 takeBinding r = oneLess (r .bindings) (λ n. room n (r .buffers) (r .variables) (r .types))
 
-unfoldable pub takeBuffer : Step (Unit {0})
+unfoldable pub takeBuffer : ReadStep (Unit {0})
 takeBuffer r = oneLess (r .buffers) (λ n. room (r .bindings) n (r .variables) (r .types))
 
-unfoldable pub takeVariable : Step (Unit {0})
+unfoldable pub takeVariable : ReadStep (Unit {0})
 takeVariable r = oneLess (r .variables) (λ n. room (r .bindings) (r .buffers) n (r .types))
 
-unfoldable pub takeType : Step (Unit {0})
+unfoldable pub takeType : ReadStep (Unit {0})
 takeType r = oneLess (r .types) (λ n. room (r .bindings) (r .buffers) (r .variables) n)

@@ -7,9 +7,9 @@ use Rattle.reflection.specs.declared.Text.{Text}
 use Rattle.reflection.specs.declared.ResourceDef.{ResourceDef as Header}
 use Rattle.reflection.specs.Reflection.{typeDesc, noMember, ResourceDef, Rd11, noRd11, rd11}
 use Rattle.reflection.specs.Texts.{inChunk}
-use Rattle.reflection.specs.Nodes.{_>>=_, membersFrom, typeFrom}
+use Rattle.reflection.specs.Nodes.{_>>=_, membersFromNodes, typeFromNodes}
 use Rattle.reflection.specs.Records.{holdsRecord, recordWord, bufferAt, variableAt, typeAt}
-use Rattle.reflection.specs.Decode.{check, recordsFrom, firstRecords, variableFrom, bufferFrom, nodeFrom, variablesFrom, buffersFrom, rd11From, decode}
+use Rattle.reflection.specs.Decode.{guard, recordsFrom, firstRecords, variableFromTable, bufferFromTable, nodeFromTable, variablesFrom, buffersFrom, rd11FromHeader, decode}
 
 -- One buffer, `$Globals`, with one variable, the float `k`.
 abbrev pub caseV : ℕ → Rd11 → ResourceDef Text Text
@@ -83,5 +83,5 @@ pub record Decoded : Type 0 where
   pub buffer-missing : from (header 1024 0 2 2 2) ≡ none
 
 pub cases : Decoded
-unfolding decode firstRecords recordsFrom check variablesFrom buffersFrom rd11From typeFrom membersFrom _>>=_ variableFrom bufferFrom nodeFrom bufferAt variableAt typeAt recordWord holdsRecord
+unfolding decode firstRecords recordsFrom guard variablesFrom buffersFrom rd11FromHeader typeFromNodes membersFromNodes _>>=_ variableFromTable bufferFromTable nodeFromTable bufferAt variableAt typeAt recordWord holdsRecord
 cases = record { major-4 = refl; major-5 = refl; major-3 = refl; node-left = refl; variable-left = refl; type-missing = refl; variable-missing = refl; buffer-missing = refl }

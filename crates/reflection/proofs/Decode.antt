@@ -20,13 +20,14 @@ use Rattle.reflection.specs.Reflection.{TypeDesc, typeDesc, CBufferVaria
 use Rattle.reflection.specs.Texts.{inChunk}
 use Rattle.reflection.specs.Nodes.{Node, nodesOf, typeLevels}
 use Rattle.reflection.specs.Records.{recordWord, joined}
-use Rattle.reflection.specs.Records.{bindingWidth, bindingWords, bindingOf, bindingAt}
-use Rattle.reflection.specs.Records.{bufferWidth, bufferWords, bufferOf, bufferAt}
-use Rattle.reflection.specs.Records.{variableWidth, variableWords, variableOf, variableAt}
-use Rattle.reflection.specs.Records.{typeWidth, typeWords, typeOf, typeAt}
+use Rattle.reflection.specs.Records.{bindingWidth, bindingWordsInTable, bindingOf, bindingAt}
+use Rattle.reflection.specs.Records.{bufferWidth, bufferWordsInTable, bufferOf, bufferAt}
+use Rattle.reflection.specs.Records.{variableWidth, variableWordsInTable, variableOf, variableAt}
+use Rattle.reflection.specs.Records.{typeWidth, typeWordsInTable, typeOf, typeAt}
 use Rattle.reflection.specs.Tables.{padded, bindingRecord, bufferRecord, variableRecord, typeRecord, allVariables, allNodes}
 use Rattle.reflection.specs.Tables.{bindingRows, bufferRows, variableRows, typeRows, headerOf}
-use Rattle.reflection.specs.Decode.{check, recordsFrom, firstRecords, bindingFrom, variableFrom, bufferFrom, nodeFrom, variablesFrom, buffersFrom, rd11From, TypesFit, decode}
+use Rattle.reflection.specs.Decode.{guard, recordsFrom, firstRecords, bindingFromTable, variableFromTable, bufferFromTable, nodeFromTable, variablesFrom, buffersFrom, rd11FromHeader, decode}
+use Rattle.reflection.proofs.Levels.{TypesFit}
 use Rattle.reflection.proofs.Rows.{within}
 use Rattle.reflection.proofs.Joined.{holds-joined, words-joined}
 use Rattle.reflection.proofs.Nodes.{then-some, type-from}
@@ -52,42 +53,42 @@ module _
     (reads : (t : List ℕ) (i : ℕ) (x : A) → within width (recordWord width t i) ≡ within width (λ k. getD (words x) k 0) → record-at t i ≡ x) where
   -- The first records of a table of joined records are these.
   first-joined : (n m : ℕ) (xs : List A) → m ≡ length xs → firstRecords width record-at (padded n (joined words xs)) m ≡ some xs
-  unfolding firstRecords check
+  unfolding firstRecords guard
   first-joined n m xs e =
-      then-some _ (ap check (le-leb m (length (padded n (joined words xs)) / width) (omega (arith, holds-joined width words whole n xs wide))))
+      then-some _ (ap guard (le-leb m (length (padded n (joined words xs)) / width) (omega (arith, holds-joined width words whole n xs wide))))
       (ap some
       (ap (recordsFrom (record-at (padded n (joined words xs))) 0) e
       ∙ records-all (record-at (padded n (joined words xs))) xs (record-at [] 0) 0
       (λ k h. ap (record-at (padded n (joined words xs))) (zero-add k) ∙ reads _ _ _ (words-joined width words whole n xs (record-at [] 0) k h))))
 
-pub first-bindings : (n m : ℕ) (xs : List BindingRecord) → m ≡ length xs → firstRecords bindingWidth bindingAt (padded n (joined bindingWords xs)) m ≡ some xs
-unfolding bindingAt bindingWords
-first-bindings = first-joined bindingWidth (omega arith) bindingWords (λ x. refl) bindingAt (λ t i x e. ap bindingOf e)
+pub first-bindings : (n m : ℕ) (xs : List BindingRecord) → m ≡ length xs → firstRecords bindingWidth bindingAt (padded n (joined bindingWordsInTable xs)) m ≡ some xs
+unfolding bindingAt bindingWordsInTable
+first-bindings = first-joined bindingWidth (omega arith) bindingWordsInTable (λ x. refl) bindingAt (λ t i x e. ap bindingOf e)
 
-pub first-buffers : (n m : ℕ) (xs : List BufferRecord) → m ≡ length xs → firstRecords bufferWidth bufferAt (padded n (joined bufferWords xs)) m ≡ some xs
-unfolding bufferAt bufferWords
-first-buffers = first-joined bufferWidth (omega arith) bufferWords (λ x. refl) bufferAt (λ t i x e. ap bufferOf e)
+pub first-buffers : (n m : ℕ) (xs : List BufferRecord) → m ≡ length xs → firstRecords bufferWidth bufferAt (padded n (joined bufferWordsInTable xs)) m ≡ some xs
+unfolding bufferAt bufferWordsInTable
+first-buffers = first-joined bufferWidth (omega arith) bufferWordsInTable (λ x. refl) bufferAt (λ t i x e. ap bufferOf e)
 
-pub first-variables : (n m : ℕ) (xs : List VariableRecord) → m ≡ length xs → firstRecords variableWidth variableAt (padded n (joined variableWords xs)) m ≡ some xs
-unfolding variableAt variableWords
-first-variables = first-joined variableWidth (omega arith) variableWords (λ x. refl) variableAt (λ t i x e. ap variableOf e)
+pub first-variables : (n m : ℕ) (xs : List VariableRecord) → m ≡ length xs → firstRecords variableWidth variableAt (padded n (joined variableWordsInTable xs)) m ≡ some xs
+unfolding variableAt variableWordsInTable
+first-variables = first-joined variableWidth (omega arith) variableWordsInTable (λ x. refl) variableAt (λ t i x e. ap variableOf e)
 
-pub first-types : (n m : ℕ) (xs : List TypeRecord) → m ≡ length xs → firstRecords typeWidth typeAt (padded n (joined typeWords xs)) m ≡ some xs
-unfolding typeAt typeWords
-first-types = first-joined typeWidth (omega arith) typeWords (λ x. refl) typeAt (λ t i x e. ap typeOf e)
+pub first-types : (n m : ℕ) (xs : List TypeRecord) → m ≡ length xs → firstRecords typeWidth typeAt (padded n (joined typeWordsInTable xs)) m ≡ some xs
+unfolding typeAt typeWordsInTable
+first-types = first-joined typeWidth (omega arith) typeWordsInTable (λ x. refl) typeAt (λ t i x e. ap typeOf e)
 
 -- What a record was made from comes back.
 map-back : {A B : Type 0} (f : A → B) (g : B → A) → ((x : A) → g (f x) ≡ x) → (xs : List A) → map g (map f xs) ≡ xs
 map-back f g e [] = refl
 map-back f g e (x ∷ xs) = ap (λ y. y ∷ map g (map f xs)) (e x) ∙ ap (λ ys. x ∷ ys) (map-back f g e xs)
 
-pub bindings-back : (xs : List (ResourceBinding Text)) → map bindingFrom (map bindingRecord xs) ≡ xs
-unfolding bindingFrom bindingRecord
-bindings-back = map-back bindingRecord bindingFrom (λ x. refl)
+pub bindings-back : (xs : List (ResourceBinding Text)) → map bindingFromTable (map bindingRecord xs) ≡ xs
+unfolding bindingFromTable bindingRecord
+bindings-back = map-back bindingRecord bindingFromTable (λ x. refl)
 
-pub nodes-back : (xs : List (Node Text)) → map nodeFrom (map typeRecord xs) ≡ xs
-unfolding nodeFrom typeRecord
-nodes-back = map-back typeRecord nodeFrom (λ x. refl)
+pub nodes-back : (xs : List (Node Text)) → map nodeFromTable (map typeRecord xs) ≡ xs
+unfolding nodeFromTable typeRecord
+nodes-back = map-back typeRecord nodeFromTable (λ x. refl)
 
 -- The nodes of the variables' types, whatever name and offset each root has as a member.
 unfoldable pub rootedNodes : (CBufferVariable Text Text → Text × ℕ) → List (CBufferVariable Text Text) → List (Node Text)
@@ -119,37 +120,37 @@ length-rooted root (x ∷ xs) =
 
 pub variables-back : (root : CBufferVariable Text Text → Text × ℕ) (vs : List (CBufferVariable Text Text)) → TypesFit vs
     → variablesFrom (map variableRecord vs) (rootedNodes root vs) ≡ some vs
-unfolding variablesFrom variableFrom variableRecord rootedNodes TypesFit
+unfolding variablesFrom variableFromTable variableRecord rootedNodes TypesFit
 variables-back root [] fits = refl
 variables-back root (v ∷ vs) fits =
     then-some _ (type-from (v .var-type) typeLevels (root v .0) (root v .1) (rootedNodes root vs) (fits .0))
     (then-some _ (variables-back root vs (fits .1)) refl)
 
 pub buffers-back : (bs : List (CBufferDef Text Text)) → buffersFrom (map bufferRecord bs) (allVariables bs) ≡ some bs
-unfolding buffersFrom bufferFrom bufferRecord allVariables check
+unfolding buffersFrom bufferFromTable bufferRecord allVariables guard
 buffers-back [] = refl
 buffers-back (b ∷ bs) =
     let own = b .variables in
     let others = allVariables bs in
-    then-some _ (ap check (le-leb (length own) (length (own ++ others)) (omega (arith, length-append own others))))
+    then-some _ (ap guard (le-leb (length own) (length (own ++ others)) (omega (arith, length-append own others))))
     (then-some _ (ap (buffersFrom (map bufferRecord bs)) (drop-append-seam own others) ∙ buffers-back bs)
-    (ap (λ vs. some (bufferFrom (bufferRecord b) vs ∷ bs)) (take-append-seam own others)))
+    (ap (λ vs. some (bufferFromTable (bufferRecord b) vs ∷ bs)) (take-append-seam own others)))
 
 -- The RD11 words that a reflection has: their own three words for major 5, none for another. Those of its header are these.
 abbrev pub rd11Of : Bool → Rd11 → Rd11
 rd11Of true words = rd11 (identifierOf words) (strideOf words) (slotsOf words)
 rd11Of false words = noRd11
 
-pub rd11-of-header : (d : ResourceDef Text Text) (sm5 : Bool) → eqb (majorOf (d .target-version)) 5 ≡ sm5 → rd11From (headerOf d) ≡ rd11Of sm5 (d .rd11)
-unfolding rd11From headerOf
-rd11-of-header d true is-sm5 = rw (rd11From, is-sm5)
-rd11-of-header d false is-sm5 = rw (rd11From, is-sm5)
+pub rd11-of-header : (d : ResourceDef Text Text) (sm5 : Bool) → eqb (majorOf (d .target-version)) 5 ≡ sm5 → rd11FromHeader (headerOf d) ≡ rd11Of sm5 (d .rd11)
+unfolding rd11FromHeader headerOf
+rd11-of-header d true is-sm5 = rw (rd11FromHeader, is-sm5)
+rd11-of-header d false is-sm5 = rw (rd11FromHeader, is-sm5)
 
-module _ (r : ResourceDef Text Text) (nb nf nv nt : ℕ) (fits : TypesFit (allVariables (r .constant-buffers))) (words : r .rd11 ≡ rd11From (headerOf r)) where
+module _ (r : ResourceDef Text Text) (nb nf nv nt : ℕ) (fits : TypesFit (allVariables (r .constant-buffers))) (words : r .rd11 ≡ rd11FromHeader (headerOf r)) where
   -- Decoding undoes encoding, whatever the roots' nodes say of a member.
   pub decode-rooted : (root : CBufferVariable Text Text → Text × ℕ)
       → decode (headerOf r) (padded nb (bindingRows r)) (padded nf (bufferRows r)) (padded nv (variableRows r))
-      (padded nt (joined typeWords (map typeRecord (rootedNodes root (allVariables (r .constant-buffers))))))
+      (padded nt (joined typeWordsInTable (map typeRecord (rootedNodes root (allVariables (r .constant-buffers))))))
       ≡ some r
   unfolding decode headerOf bindingRows bufferRows variableRows
   decode-rooted root =

@@ -2,6 +2,7 @@ pub mod Records
 pub mod Rows
 pub mod Texts
 pub mod Joined
+pub mod Levels
 pub mod Nodes
 pub mod Decode
 pub mod Rd11Words

@@ -9,7 +9,8 @@ use native.Mathlib.Omega.{arith}
 use borrow.Author.Tests.{lt-ltb, le-ltb}
 use lib.ListN.{length, getD, take, drop, length-drop}
 use lib.Seq.{length-take-le, getD-take, getD-drop}
-use Rattle.words.specs.Splice.{splice, length-splice}
+use Rattle.words.specs.Splice.{splice}
+use Rattle.words.proofs.Splice.{length-splice}
 use Rattle.words.proofs.Splice.{splice-puts}
 use Rattle.words.proofs.Records.{record-written, other-record-kept}
 use Rattle.reflection.specs.Records.{holdsRecord, putRecord, recordWord}

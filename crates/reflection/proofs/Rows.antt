@@ -12,10 +12,10 @@ use Rattle.reflection.specs.declared.CBufferDef.{CBufferDef}
 use Rattle.reflection.specs.declared.CBufferVariable.{CBufferVariable}
 use Rattle.reflection.specs.declared.TypeDesc.{TypeDesc}
 use Rattle.reflection.specs.Records.{putRecord, recordWord}
-use Rattle.reflection.specs.Records.{bindingWidth, bindingWords, bindingOf, bindingAt}
-use Rattle.reflection.specs.Records.{bufferWidth, bufferWords, bufferOf, bufferAt}
-use Rattle.reflection.specs.Records.{variableWidth, variableWords, variableOf, variableAt}
-use Rattle.reflection.specs.Records.{typeWidth, typeWords, typeOf, typeAt}
+use Rattle.reflection.specs.Records.{bindingWidth, bindingWordsInTable, bindingOf, bindingAt}
+use Rattle.reflection.specs.Records.{bufferWidth, bufferWordsInTable, bufferOf, bufferAt}
+use Rattle.reflection.specs.Records.{variableWidth, variableWordsInTable, variableOf, variableAt}
+use Rattle.reflection.specs.Records.{typeWidth, typeWordsInTable, typeOf, typeAt}
 use Rattle.reflection.proofs.Records.{record-put, record-put-other}
 
 -- a record's words, 0 from its width on
@@ -42,37 +42,37 @@ module _ {A : Type 0} (width : ℕ) (words : A → List ℕ) (whole : (x : A) �
       (λ k h. record-put-other width t i (words x) (whole x) j k h other)
 
 module _ (t : List ℕ) (i : ℕ) (x : ResourceBinding) where
-  pub binding-put : i < length t / bindingWidth → bindingAt (putRecord bindingWidth t i (bindingWords x)) i ≡ x
-  unfolding bindingAt bindingWords
-  binding-put inside = ap bindingOf (words-put bindingWidth bindingWords (λ y. refl) t i x inside)
+  pub binding-put : i < length t / bindingWidth → bindingAt (putRecord bindingWidth t i (bindingWordsInTable x)) i ≡ x
+  unfolding bindingAt bindingWordsInTable
+  binding-put inside = ap bindingOf (words-put bindingWidth bindingWordsInTable (λ y. refl) t i x inside)
 
-  pub binding-put-other : (j : ℕ) → (j ≡ i → ⊥) → bindingAt (putRecord bindingWidth t i (bindingWords x)) j ≡ bindingAt t j
-  unfolding bindingAt bindingWords
-  binding-put-other j other = ap bindingOf (words-put-other bindingWidth bindingWords (λ y. refl) t i x j other)
+  pub binding-put-other : (j : ℕ) → (j ≡ i → ⊥) → bindingAt (putRecord bindingWidth t i (bindingWordsInTable x)) j ≡ bindingAt t j
+  unfolding bindingAt bindingWordsInTable
+  binding-put-other j other = ap bindingOf (words-put-other bindingWidth bindingWordsInTable (λ y. refl) t i x j other)
 
 module _ (t : List ℕ) (i : ℕ) (x : CBufferDef) where
-  pub buffer-put : i < length t / bufferWidth → bufferAt (putRecord bufferWidth t i (bufferWords x)) i ≡ x
-  unfolding bufferAt bufferWords
-  buffer-put inside = ap bufferOf (words-put bufferWidth bufferWords (λ y. refl) t i x inside)
+  pub buffer-put : i < length t / bufferWidth → bufferAt (putRecord bufferWidth t i (bufferWordsInTable x)) i ≡ x
+  unfolding bufferAt bufferWordsInTable
+  buffer-put inside = ap bufferOf (words-put bufferWidth bufferWordsInTable (λ y. refl) t i x inside)
 
-  pub buffer-put-other : (j : ℕ) → (j ≡ i → ⊥) → bufferAt (putRecord bufferWidth t i (bufferWords x)) j ≡ bufferAt t j
-  unfolding bufferAt bufferWords
-  buffer-put-other j other = ap bufferOf (words-put-other bufferWidth bufferWords (λ y. refl) t i x j other)
+  pub buffer-put-other : (j : ℕ) → (j ≡ i → ⊥) → bufferAt (putRecord bufferWidth t i (bufferWordsInTable x)) j ≡ bufferAt t j
+  unfolding bufferAt bufferWordsInTable
+  buffer-put-other j other = ap bufferOf (words-put-other bufferWidth bufferWordsInTable (λ y. refl) t i x j other)
 
 module _ (t : List ℕ) (i : ℕ) (x : CBufferVariable) where
-  pub variable-put : i < length t / variableWidth → variableAt (putRecord variableWidth t i (variableWords x)) i ≡ x
-  unfolding variableAt variableWords
-  variable-put inside = ap variableOf (words-put variableWidth variableWords (λ y. refl) t i x inside)
+  pub variable-put : i < length t / variableWidth → variableAt (putRecord variableWidth t i (variableWordsInTable x)) i ≡ x
+  unfolding variableAt variableWordsInTable
+  variable-put inside = ap variableOf (words-put variableWidth variableWordsInTable (λ y. refl) t i x inside)
 
-  pub variable-put-other : (j : ℕ) → (j ≡ i → ⊥) → variableAt (putRecord variableWidth t i (variableWords x)) j ≡ variableAt t j
-  unfolding variableAt variableWords
-  variable-put-other j other = ap variableOf (words-put-other variableWidth variableWords (λ y. refl) t i x j other)
+  pub variable-put-other : (j : ℕ) → (j ≡ i → ⊥) → variableAt (putRecord variableWidth t i (variableWordsInTable x)) j ≡ variableAt t j
+  unfolding variableAt variableWordsInTable
+  variable-put-other j other = ap variableOf (words-put-other variableWidth variableWordsInTable (λ y. refl) t i x j other)
 
 module _ (t : List ℕ) (i : ℕ) (x : TypeDesc) where
-  pub type-put : i < length t / typeWidth → typeAt (putRecord typeWidth t i (typeWords x)) i ≡ x
-  unfolding typeAt typeWords
-  type-put inside = ap typeOf (words-put typeWidth typeWords (λ y. refl) t i x inside)
+  pub type-put : i < length t / typeWidth → typeAt (putRecord typeWidth t i (typeWordsInTable x)) i ≡ x
+  unfolding typeAt typeWordsInTable
+  type-put inside = ap typeOf (words-put typeWidth typeWordsInTable (λ y. refl) t i x inside)
 
-  pub type-put-other : (j : ℕ) → (j ≡ i → ⊥) → typeAt (putRecord typeWidth t i (typeWords x)) j ≡ typeAt t j
-  unfolding typeAt typeWords
-  type-put-other j other = ap typeOf (words-put-other typeWidth typeWords (λ y. refl) t i x j other)
+  pub type-put-other : (j : ℕ) → (j ≡ i → ⊥) → typeAt (putRecord typeWidth t i (typeWordsInTable x)) j ≡ typeAt t j
+  unfolding typeAt typeWordsInTable
+  type-put-other j other = ap typeOf (words-put-other typeWidth typeWordsInTable (λ y. refl) t i x j other)

@@ -13,13 +13,13 @@ use Rattle.reflection.specs.declared.CBufferDef.{CBufferDef as BufferRec
 use Rattle.reflection.specs.declared.CBufferVariable.{CBufferVariable as VariableRecord}
 use Rattle.reflection.specs.declared.TypeDesc.{TypeDesc as TypeRecord}
 use Rattle.reflection.specs.Reflection.{TypeDesc, CBufferVariable, CBufferDef, ResourceBinding, ResourceDef, Rd11, noRd11, rd11, majorOf}
-use Rattle.reflection.specs.Nodes.{Node, _>>=_, typeFrom, typeLevels, Fits}
+use Rattle.reflection.specs.Nodes.{Node, _>>=_, typeFromNodes, typeLevels}
 use Rattle.reflection.specs.Records.{bindingWidth, bufferWidth, variableWidth, typeWidth, bindingAt, bufferAt, variableAt, typeAt}
 
 -- Goes on where the test holds.
-unfoldable pub check : Bool → Option (Unit {0})
-check true = some tt
-check false = none
+unfoldable pub guard : Bool → Option (Unit {0})
+guard true = some tt
+guard false = none
 
 -- Records i to i + n - 1.
 unfoldable pub recordsFrom : {A : Type 0} → (ℕ → A) → ℕ → ℕ → List A
@@ -29,12 +29,12 @@ recordsFrom record-at i (suc n) = record-at i ∷ recordsFrom record-at (suc i) 
 -- The first n records of a table, where it holds so many.
 unfoldable pub firstRecords : {A : Type 0} → ℕ → (List ℕ → ℕ → A) → List ℕ → ℕ → Option (List A)
 firstRecords width record-at t n = do
-  _ ← check (leb n (length t / width))
+  _ ← guard (leb n (length t / width))
   some (recordsFrom (record-at t) 0 n)
 
 -- What a record says; the type of a variable and the variables of a buffer are handed in.
-unfoldable pub bindingFrom : BindingRecord → ResourceBinding Text
-bindingFrom x = record {
+unfoldable pub bindingFromTable : BindingRecord → ResourceBinding Text
+bindingFromTable x = record {
   name = x .name;
   input-type = x .«input_type»;
   return-type = x .«return_type»;
@@ -47,8 +47,8 @@ bindingFrom x = record {
   id = x .id;
 }
 
-unfoldable pub variableFrom : VariableRecord → TypeDesc Text → CBufferVariable Text Text
-variableFrom x type = record {
+unfoldable pub variableFromTable : VariableRecord → TypeDesc Text → CBufferVariable Text Text
+variableFromTable x type = record {
   name = x .name;
   offset = x .offset;
   size = x .size;
@@ -61,11 +61,11 @@ variableFrom x type = record {
   var-type = type;
 }
 
-unfoldable pub bufferFrom : BufferRecord → List (CBufferVariable Text Text) → CBufferDef Text Text
-bufferFrom x variables = record { name = x .name; size = x .size; flags = x .flags; cb-type = x .«cb_type»; variables = variables }
+unfoldable pub bufferFromTable : BufferRecord → List (CBufferVariable Text Text) → CBufferDef Text Text
+bufferFromTable x variables = record { name = x .name; size = x .size; flags = x .flags; cb-type = x .«cb_type»; variables = variables }
 
-unfoldable pub nodeFrom : TypeRecord → Node Text
-nodeFrom x = record {
+unfoldable pub nodeFromTable : TypeRecord → Node Text
+nodeFromTable x = record {
   numbers = record {
     class = x .class;
     var-type = x .«var_type»;
@@ -88,27 +88,22 @@ unfoldable pub variablesFrom : List VariableRecord → List (Node Text) → Opti
 variablesFrom [] [] = some []
 variablesFrom [] (n ∷ ns) = none
 variablesFrom (v ∷ vs) ns = do
-  t ← typeFrom typeLevels ns
+  t ← typeFromNodes typeLevels ns
   others ← variablesFrom vs (t .left)
-  some (variableFrom v (t .type) ∷ others)
-
--- Every variable's type has at most as many levels as can be built.
-unfoldable pub TypesFit : {N D : Type 0} → List (CBufferVariable N D) → Type 0
-TypesFit [] = Unit {0}
-TypesFit (v ∷ vs) = Fits (v .var-type) typeLevels × TypesFit vs
+  some (variableFromTable v (t .type) ∷ others)
 
 -- The buffers, each with as many of the next variables as it counts. All variables are used.
 unfoldable pub buffersFrom : List BufferRecord → List (CBufferVariable Text Text) → Option (List (CBufferDef Text Text))
 buffersFrom [] [] = some []
 buffersFrom [] (v ∷ vs) = none
 buffersFrom (b ∷ bs) vs = do
-  _ ← check (leb (b .«variable_count») (length vs))
+  _ ← guard (leb (b .«variable_count») (length vs))
   others ← buffersFrom bs (drop (b .«variable_count») vs)
-  some (bufferFrom b (take (b .«variable_count») vs) ∷ others)
+  some (bufferFromTable b (take (b .«variable_count») vs) ∷ others)
 
 -- The RD11 words, which major 5 has and no other.
-unfoldable pub rd11From : Header → Rd11
-rd11From h =
+unfoldable pub rd11FromHeader : Header → Rd11
+rd11FromHeader h =
     elim (eqb (majorOf (h .«target_version»)) 5) [
       | true ↦ rd11 (h .rd11 .identifier) (h .rd11 .«resource_binding_stride») (h .rd11 .«interface_slot_count»)
       | false ↦ noRd11
@@ -121,13 +116,13 @@ decode h bindings buffers variables types = do
   cs ← firstRecords bufferWidth bufferAt buffers (h .«buffer_count»)
   vs ← firstRecords variableWidth variableAt variables (h .«variable_count»)
   ts ← firstRecords typeWidth typeAt types (h .«type_count»)
-  typed ← variablesFrom vs (map nodeFrom ts)
+  typed ← variablesFrom vs (map nodeFromTable ts)
   filled ← buffersFrom cs typed
   some (record {
     target-version = h .«target_version»;
     compile-flags = h .«compile_flags»;
-    rd11 = rd11From h;
+    rd11 = rd11FromHeader h;
     creator = h .creator;
-    bindings = map bindingFrom bs;
+    bindings = map bindingFromTable bs;
     constant-buffers = filled;
   })

@@ -21,16 +21,6 @@ unfoldable mutual
   nodesOfMembers noMember = []
   nodesOfMembers (member n o t ms) = nodesOf n o t ++ nodesOfMembers ms
 
--- The type has at most so many levels.
-unfoldable mutual
-  pub Fits : {N : Type 0} → TypeDesc N → ℕ → Type 0
-  Fits (typeDesc k n ms) zero = ⊥
-  Fits (typeDesc k n ms) (suc levels) = FitsAll ms levels
-
-  pub FitsAll : {N : Type 0} → Members N → ℕ → Type 0
-  FitsAll noMember levels = Unit {0}
-  FitsAll (member n o t ms) levels = Fits t levels × FitsAll ms levels
-
 -- A type built from nodes, what it is as a member, and the nodes that are left.
 pub record Built (N : Type 0) : Type 0 where
   pub type : TypeDesc N
@@ -44,17 +34,17 @@ _>>=_ (some a) f = f a
 _>>=_ none f = none
 
 -- n members from the nodes that are left; `build` builds one type.
-unfoldable pub membersFrom : {N : Type 0} → (List (Node N) → Option (Built N)) → ℕ → List (Node N) → Option (Members N × List (Node N))
-membersFrom build zero xs = some (noMember, xs)
-membersFrom build (suc n) xs = do
+unfoldable pub membersFromNodes : {N : Type 0} → (List (Node N) → Option (Built N)) → ℕ → List (Node N) → Option (Members N × List (Node N))
+membersFromNodes build zero xs = some (noMember, xs)
+membersFromNodes build (suc n) xs = do
   t ← build xs
-  ms ← membersFrom build n (t .left)
+  ms ← membersFromNodes build n (t .left)
   some (member (t .member-name) (t .member-offset) (t .type) (ms .0), ms .1)
 
 -- The type whose node comes first, of at most so many levels.
-unfoldable pub typeFrom : {N : Type 0} → ℕ → List (Node N) → Option (Built N)
-typeFrom zero xs = none
-typeFrom (suc levels) [] = none
-typeFrom (suc levels) (x ∷ xs) = do
-  ms ← membersFrom (typeFrom levels) (x .member-count) xs
+unfoldable pub typeFromNodes : {N : Type 0} → ℕ → List (Node N) → Option (Built N)
+typeFromNodes zero xs = none
+typeFromNodes (suc levels) [] = none
+typeFromNodes (suc levels) (x ∷ xs) = do
+  ms ← membersFromNodes (typeFromNodes levels) (x .member-count) xs
   some (record { type = typeDesc (x .numbers) (x .name) (ms .0); member-name = x .member-name; member-offset = x .member-offset; left = ms .1 })

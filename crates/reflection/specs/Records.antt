@@ -13,25 +13,25 @@ use Rattle.reflection.specs.declared.TypeDesc.{TypeDesc}
 pub use Rattle.reflection.specs.Limits.{bindingWidth, bufferWidth, variableWidth, typeWidth}
 
 -- A binding: its name, then the nine other fields in the order of the Rust's struct.
-unfoldable pub bindingWords : ResourceBinding → List ℕ
-bindingWords x =
+unfoldable pub bindingWordsInTable : ResourceBinding → List ℕ
+bindingWordsInTable x =
     x .name .source ∷ x .name .place ∷ x .name .length
     ∷ x .«input_type» ∷ x .«return_type» ∷ x .dimension ∷ x .«num_samples» ∷ x .«bind_point» ∷ x .«bind_count» ∷ x .flags .0 ∷ x .space ∷ x .id ∷ []
 
 -- A buffer: its name, how many variables it has, its size, flags and type.
-unfoldable pub bufferWords : CBufferDef → List ℕ
-bufferWords x = x .name .source ∷ x .name .place ∷ x .name .length ∷ x .«variable_count» ∷ x .size ∷ x .flags ∷ x .«cb_type» ∷ []
+unfoldable pub bufferWordsInTable : CBufferDef → List ℕ
+bufferWordsInTable x = x .name .source ∷ x .name .place ∷ x .name .length ∷ x .«variable_count» ∷ x .size ∷ x .flags ∷ x .«cb_type» ∷ []
 
 -- A variable: its name, offset, size, flags, its default, four slot words.
-unfoldable pub variableWords : CBufferVariable → List ℕ
-variableWords x =
+unfoldable pub variableWordsInTable : CBufferVariable → List ℕ
+variableWordsInTable x =
     x .name .source ∷ x .name .place ∷ x .name .length ∷ x .offset ∷ x .size ∷ x .flags .0
     ∷ x .«default_value» .source ∷ x .«default_value» .place ∷ x .«default_value» .length
     ∷ x .«texture_start» ∷ x .«texture_size» ∷ x .«sampler_start» ∷ x .«sampler_size» ∷ []
 
 -- A type node: its numbers, how many members follow, four extra words, its name, and its name and offset as a member.
-unfoldable pub typeWords : TypeDesc → List ℕ
-typeWords x =
+unfoldable pub typeWordsInTable : TypeDesc → List ℕ
+typeWordsInTable x =
     x .class ∷ x .«var_type» ∷ x .rows ∷ x .columns ∷ x .elements ∷ x .«member_count» ∷ x .extra0 ∷ x .extra1 ∷ x .extra2 ∷ x .extra3
     ∷ x .name .source ∷ x .name .place ∷ x .name .length ∷ x .«member_name» .source ∷ x .«member_name» .place ∷ x .«member_name» .length ∷ x .«member_offset» ∷ []
 

@@ -13,7 +13,7 @@ use Rattle.reflection.specs.Outcome.{Outcome, ok, refused}
 use Rattle.reflection.specs.Reflection.{TypeNumbers, TypeDesc, CBufferVariable, CBufferDef, ResourceBinding, ResourceDef, identifierOf, strideOf, slotsOf}
 use Rattle.reflection.specs.Nodes.{Node, nodesOf}
 use Rattle.reflection.specs.Texts.{inChunk}
-use Rattle.reflection.specs.Records.{bindingWords, bufferWords, variableWords, typeWords, joined}
+use Rattle.reflection.specs.Records.{bindingWordsInTable, bufferWordsInTable, variableWordsInTable, typeWordsInTable, joined}
 
 -- What stands in the tables' records.
 unfoldable pub bindingRecord : ResourceBinding Text → BindingRecord
@@ -74,16 +74,16 @@ allNodes (x ∷ xs) = nodesOf (inChunk 0 0) 0 (x .var-type) ++ allNodes xs
 
 -- The words of each table.
 unfoldable pub bindingRows : ResourceDef Text Text → List ℕ
-bindingRows r = joined bindingWords (map bindingRecord (r .bindings))
+bindingRows r = joined bindingWordsInTable (map bindingRecord (r .bindings))
 
 unfoldable pub bufferRows : ResourceDef Text Text → List ℕ
-bufferRows r = joined bufferWords (map bufferRecord (r .constant-buffers))
+bufferRows r = joined bufferWordsInTable (map bufferRecord (r .constant-buffers))
 
 unfoldable pub variableRows : ResourceDef Text Text → List ℕ
-variableRows r = joined variableWords (map variableRecord (allVariables (r .constant-buffers)))
+variableRows r = joined variableWordsInTable (map variableRecord (allVariables (r .constant-buffers)))
 
 unfoldable pub typeRows : ResourceDef Text Text → List ℕ
-typeRows r = joined typeWords (map typeRecord (allNodes (allVariables (r .constant-buffers))))
+typeRows r = joined typeWordsInTable (map typeRecord (allNodes (allVariables (r .constant-buffers))))
 
 -- Words, and then zeros up to n words.
 abbrev pub padded : ℕ → List ℕ → List ℕ

@@ -2,7 +2,7 @@
 ghost use mathlib.Core.Path.{_≡_};
 ghost use Rattle.reflection.specs.Rd11.{rd11Allowed};
 ghost use Rattle.reflection.specs.Reflection.{majorOf, isSm5, isWide};
-ghost use Rattle.reflection.specs.Decode.{rd11From};
+ghost use Rattle.reflection.specs.Decode.{rd11FromHeader};
 use crate::ResourceDef;
 use crate::strides::BINDING_STRIDE;
 use crate::strides::BUFFER_STRIDE;
@@ -26,14 +26,14 @@ pub fn major_of(version: u32) -> u32
 
 // Whether the reflection is of major 5: it has RD11 words.
 pub fn is_sm5(def: ResourceDef) -> bool
-    ensures { λ r. ⌜ r ≡ isSm5 (rd11From def) ⌝ }
+    ensures { λ r. ⌜ r ≡ isSm5 (rd11FromHeader def) ⌝ }
 {
     major_of(def.target_version) == 5
 }
 
 // Whether its bindings have space and id.
 pub fn is_wide(def: ResourceDef) -> bool
-    ensures { λ r. ⌜ r ≡ isWide (rd11From def) ⌝ }
+    ensures { λ r. ⌜ r ≡ isWide (rd11FromHeader def) ⌝ }
 {
     let rd11 = def.rd11;
     if is_sm5(def) {

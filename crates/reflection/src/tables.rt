@@ -4,7 +4,7 @@ ghost use Prim.Native.Nat.{ℕ, _<_, _≤_};
 ghost use lib.ListN.{getD};
 ghost use Rattle.reflection.specs.Records.{putRecord, recordWord};
 ghost use Rattle.reflection.specs.Records.{bindingWidth, bufferWidth, variableWidth, typeWidth};
-ghost use Rattle.reflection.specs.Records.{bindingWords, bufferWords, variableWords, typeWords};
+ghost use Rattle.reflection.specs.Records.{bindingWordsInTable, bufferWordsInTable, variableWordsInTable, typeWordsInTable};
 ghost use Rattle.reflection.specs.Records.{bindingAt, bufferAt, variableAt, typeAt};
 use crate::CBufferDef;
 use crate::CBufferVariable;
@@ -30,7 +30,7 @@ fn put_record(table: &mut [u32], width: usize, i: usize, row: &[u32])
 
 // Writes a binding as record i of the bindings' table.
 pub fn put_binding(table: &mut [u32], i: usize, b: ResourceBinding)
-    ensures { λ _. ⌜ now (table .exit) ≡ putRecord bindingWidth (now (table .entry)) i (bindingWords b) ⌝ }
+    ensures { λ _. ⌜ now (table .exit) ≡ putRecord bindingWidth (now (table .entry)) i (bindingWordsInTable b) ⌝ }
 {
     let row = [
         b.name.source,
@@ -51,7 +51,7 @@ pub fn put_binding(table: &mut [u32], i: usize, b: ResourceBinding)
 
 // Writes a constant buffer as record i of the buffers' table.
 pub fn put_buffer(table: &mut [u32], i: usize, b: CBufferDef)
-    ensures { λ _. ⌜ now (table .exit) ≡ putRecord bufferWidth (now (table .entry)) i (bufferWords b) ⌝ }
+    ensures { λ _. ⌜ now (table .exit) ≡ putRecord bufferWidth (now (table .entry)) i (bufferWordsInTable b) ⌝ }
 {
     let row = [
         b.name.source,
@@ -67,7 +67,7 @@ pub fn put_buffer(table: &mut [u32], i: usize, b: CBufferDef)
 
 // Writes a variable as record i of the variables' table.
 pub fn put_variable(table: &mut [u32], i: usize, v: CBufferVariable)
-    ensures { λ _. ⌜ now (table .exit) ≡ putRecord variableWidth (now (table .entry)) i (variableWords v) ⌝ }
+    ensures { λ _. ⌜ now (table .exit) ≡ putRecord variableWidth (now (table .entry)) i (variableWordsInTable v) ⌝ }
 {
     let row = [
         v.name.source,
@@ -89,7 +89,7 @@ pub fn put_variable(table: &mut [u32], i: usize, v: CBufferVariable)
 
 // Writes a type descriptor as node i of the types' table.
 pub fn put_type(table: &mut [u32], i: usize, t: TypeDesc)
-    ensures { λ _. ⌜ now (table .exit) ≡ putRecord typeWidth (now (table .entry)) i (typeWords t) ⌝ }
+    ensures { λ _. ⌜ now (table .exit) ≡ putRecord typeWidth (now (table .entry)) i (typeWordsInTable t) ⌝ }
 {
     let row = [
         t.class,

@@ -18,14 +18,14 @@ use Rattle.reflection.specs.Reflection.{ResourceBinding, mapBinding}
 use Rattle.reflection.specs.Texts.{inChunk}
 use Rattle.reflection.specs.Contents.{Bytes}
 use Rattle.reading.specs.Step.{room}
-use Rattle.reading.specs.Read.{wordIf, bindingFrom, readBinding}
+use Rattle.reading.specs.Read.{wordIf, bindingFromChunk, readBinding}
 use Rattle.readable.specs.Readable.{nameReadable}
 use Rattle.writing.specs.Step.{Cell, ahead}
-use Rattle.writing.specs.Records.{bindingWords, bindingSize, wordsIf, rows}
+use Rattle.writing.specs.Records.{bindingWordsInChunk, bindingSize, wordsIf, rows}
 use Rattle.writing.specs.Layout.{placeOuterNames}
 use Rattle.writing.specs.Canonical.{bytesOracle}
 use Rattle.writing.proofs.Sizes.{rows-length, binding-words-length, outer-names-length}
-use Rattle.round_trip.specs.RoundTrip.{Words, bindingNumbers}
+use Rattle.round_trip.specs.RoundTrip.{EachIsWord, bindingNumbers}
 use Rattle.round_trip.proofs.Lists.{All, all-weaken, all-to-map, Zip}
 use Rattle.round_trip.proofs.Holds.{bytesOf, WordsAt, inside-bytes, row-word, words-fit, words-split, longer-word}
 use Rattle.round_trip.proofs.Rooms.{Takes, free-then, then-free, returns, check-takes, text-takes, binding-takes}
@@ -34,8 +34,8 @@ use Rattle.round_trip.proofs.Steps.{Leaves, ahead-leaves}
 use Rattle.round_trip.proofs.Names.{placeOuterNames-leaves}
 use Rattle.round_trip.proofs.Conditions.{ReadableBinding}
 
-pub length-bindingWords : (wide : Bool) (b : ResourceBinding Bytes) (o : ℕ) → 4 * length (bindingWords wide b o) ≡ bindingStride wide
-unfolding bindingWords
+pub length-bindingWords : (wide : Bool) (b : ResourceBinding Bytes) (o : ℕ) → 4 * length (bindingWordsInChunk wide b o) ≡ bindingStride wide
+unfolding bindingWordsInChunk
 length-bindingWords false b o = refl
 length-bindingWords true b o = refl
 
@@ -49,7 +49,7 @@ BindingRead cells b o p = mapBinding (textIn cells) p ≡ mapBinding nameIn b
 -- The bindings' records stand at an offset, and their names where the records say.
 pub record BindingsAt (cells : List (Cell Bytes Bytes)) (wide : Bool) (bs : List (ResourceBinding Bytes)) (at : ℕ) (os : List ℕ) : Type 0 where
   pub all : Zip (BindingAt cells wide) bs os
-  pub stand : WordsAt cells at (rows (bindingWords wide) bs os)
+  pub stand : WordsAt cells at (rows (bindingWordsInChunk wide) bs os)
 
 bindings-named : (cells : List (Cell Bytes Bytes)) (wide : Bool) (bs : List (ResourceBinding Bytes)) (os : List ℕ) → All (ReadableBinding wide) bs
     → Zip (λ n o. NameAt cells o n) (map (λ b. b .name) bs) os → Zip (BindingAt cells wide) bs os
@@ -59,9 +59,9 @@ bindings-named cells wide (b ∷ bs) [] fine named = absurd named
 bindings-named cells wide (b ∷ bs) (o ∷ os) fine named = (record { fine = fine .0; name = named .0 }, bindings-named cells wide bs os (fine .1) (named .1))
 
 module _ (cells : List (Cell Bytes Bytes)) (short : length cells ≤ chunkLimit) (wide : Bool) where
-  pub binding-read : (b : ResourceBinding Bytes) (o at : ℕ) → BindingAt cells wide b o → WordsAt cells at (bindingWords wide b o)
+  pub binding-read : (b : ResourceBinding Bytes) (o at : ℕ) → BindingAt cells wide b o → WordsAt cells at (bindingWordsInChunk wide b o)
       → (p : ResourceBinding Text) × Takes (readBinding (bytesOf cells) wide at) (room 1 0 0 0) p × BindingRead cells b o p
-  unfolding readBinding mapBinding bindingWords bindingFrom Words bindingNumbers
+  unfolding readBinding mapBinding bindingWordsInChunk bindingFromChunk EachIsWord bindingNumbers
   binding-read b o at there h =
       let name : Text = inChunk o (length (b .name)) in
       let p : ResourceBinding Text = record {
@@ -78,7 +78,7 @@ module _ (cells : List (Cell Bytes Bytes)) (short : length cells ≤ chunkLimit)
       } in (
         p,
         then-free _ _ binding-takes
-            (free-then _ _ (check-takes _ _ (inside-bytes cells at (bindingStride wide) (omega (arith, words-fit cells at (bindingWords wide b o) h, length-bindingWords wide b o))))
+            (free-then _ _ (check-takes _ _ (inside-bytes cells at (bindingStride wide) (omega (arith, words-fit cells at (bindingWordsInChunk wide b o) h, length-bindingWords wide b o))))
             (free-then _ _ (check-takes _ _ (ap (known inputTypes) (word 1 (omega arith)) ∙ there .fine .input-type))
             (free-then _ _ (check-takes _ _ (ap (known srvDimensions) (word 3 (omega arith)) ∙ there .fine .dimension))
             (free-then _ _ (check-takes _ _ (ap bindingFlagsAllowed (word 7 (omega arith)) ∙ there .fine .flags))
@@ -115,7 +115,7 @@ module _ (cells : List (Cell Bytes Bytes)) (short : length cells ≤ chunkLimit)
       longer : List ℕ
       longer = b .space ∷ b .id ∷ []
 
-      small : Words (bindingNumbers b)
+      small : EachIsWord (bindingNumbers b)
       small = there .fine .words
 
       word : (j : ℕ) → j < 8
@@ -130,9 +130,9 @@ module _ (cells : List (Cell Bytes Bytes)) (short : length cells ≤ chunkLimit)
       last j m lt e = longer-word cells wide at first longer j m (there .fine .longer) lt e h
 
   pub bindings-leave : (sm5 : Bool) (bs : List (ResourceBinding Bytes)) → All (ReadableBinding wide) bs → (at : ℕ)
-      → Leaves cells sm5 at (ahead (length bs * bindingSize wide) (rows (bindingWords wide) bs) (placeOuterNames bytesOracle (map (λ b. b .name) bs))) (λ os at′. BindingsAt cells wide bs at os)
+      → Leaves cells sm5 at (ahead (length bs * bindingSize wide) (rows (bindingWordsInChunk wide) bs) (placeOuterNames bytesOracle (map (λ b. b .name) bs))) (λ os at′. BindingsAt cells wide bs at os)
   bindings-leave sm5 bs fine at =
-      ahead-leaves at (length bs * bindingSize wide) (rows (bindingWords wide) bs) (placeOuterNames bytesOracle (map (λ b. b .name) bs))
-      (λ ps. rows-length (bindingWords wide) (bindingSize wide) (binding-words-length wide) bs _ (outer-names-length bytesOracle (map (λ b. b .name) bs) _ ps ∙ length-map bs (λ b. b .name)))
+      ahead-leaves at (length bs * bindingSize wide) (rows (bindingWordsInChunk wide) bs) (placeOuterNames bytesOracle (map (λ b. b .name) bs))
+      (λ ps. rows-length (bindingWordsInChunk wide) (bindingSize wide) (binding-words-length wide) bs _ (outer-names-length bytesOracle (map (λ b. b .name) bs) _ ps ∙ length-map bs (λ b. b .name)))
       (placeOuterNames-leaves cells sm5 (map (λ b. b .name) bs) (all-to-map (λ n. nameReadable n ≡ true) (λ b. b .name) bs (all-weaken (λ b f. f .name) bs fine)) _)
       (λ os at₁ named h. record { all = bindings-named cells wide bs os fine named; stand = h })

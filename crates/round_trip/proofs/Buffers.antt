@@ -17,14 +17,14 @@ use Rattle.reflection.specs.Texts.{inChunk}
 use Rattle.reflection.specs.Tables.{allVariables}
 use Rattle.reflection.specs.Contents.{Bytes}
 use Rattle.reading.specs.Step.{Room, room}
-use Rattle.reading.specs.Read.{readMany, readVariable, bufferFrom, readBuffer}
+use Rattle.reading.specs.Read.{readMany, readVariable, bufferFromChunk, readBuffer}
 use Rattle.readable.specs.Readable.{nameReadable}
 use Rattle.writing.specs.Step.{Cell, ahead, wordCells}
-use Rattle.writing.specs.Records.{VariableOffsets, variableWords, variableSize, Section, bufferWords, bufferSize, rows}
+use Rattle.writing.specs.Records.{VariableOffsets, variableWordsInChunk, variableSize, Section, bufferWordsInChunk, bufferSize, rows}
 use Rattle.writing.specs.Layout.{zip, placeVariables, placeSection, placeSections, placeBufferParts, placeBuffers}
 use Rattle.writing.specs.Canonical.{bytesOracle}
 use Rattle.writing.proofs.Sizes.{rows-length, variable-words-length, buffer-words-length, variables-length, buffer-parts-length}
-use Rattle.round_trip.specs.RoundTrip.{Words, bufferNumbers, placesOf, sectionOffsets}
+use Rattle.round_trip.specs.RoundTrip.{EachIsWord, bufferNumbers, placesOf, sectionOffsets}
 use Rattle.round_trip.proofs.Lists.{All, all-weaken, all-to-map, Zip, Zip3, zip3-weaken, zip3-map, zip-length}
 use Rattle.round_trip.proofs.Holds.{bytesOf, holds-nothing, WordsAt, inside-bytes, row-word, words-fit}
 use Rattle.round_trip.proofs.Rooms.{plus, Takes, then-takes, free-then, then-free, returns, check-takes, text-takes, buffer-takes}
@@ -37,7 +37,7 @@ use Rattle.round_trip.proofs.Variables.{length-variableWords, VariableA
 
 -- A buffer's variables: their records stand where the section starts.
 pub record SectionAt (cells : List (Cell Bytes Bytes)) (sm5 : Bool) (b : CBufferDef Bytes Bytes) (s : Section) : Type 0 where
-  pub stands : WordsAt cells (s .start) (rows (variableWords sm5) (b .variables) (s .offsets))
+  pub stands : WordsAt cells (s .start) (rows (variableWordsInChunk sm5) (b .variables) (s .offsets))
   pub variables : Zip (VariableAt cells sm5) (b .variables) (s .offsets)
 
 pub record BufferAt (cells : List (Cell Bytes Bytes)) (sm5 : Bool) (b : CBufferDef Bytes Bytes) (o : ℕ × Section) : Type 0 where
@@ -88,16 +88,16 @@ buffer-places cells (b ∷ bs) (o ∷ os) (p ∷ ps) h =
     ∙ sym (places-append length (o .1 .offsets) (sectionOffsets os) (map (λ v. v .default-value) (b .variables)) (map (λ v. v .default-value) (allVariables bs)) (h .0 .count ∙ sym (length-map (b .variables) (λ v. v .default-value))))
     ∙ ap (placesOf length (o .1 .offsets ++ sectionOffsets os)) (sym (map-append (λ v. v .default-value) (b .variables) (allVariables bs)))
 
-pub length-bufferWords : (b : CBufferDef Bytes Bytes) (o : ℕ × Section) → 4 * length (bufferWords b o) ≡ bufferStride
-unfolding bufferWords
+pub length-bufferWords : (b : CBufferDef Bytes Bytes) (o : ℕ × Section) → 4 * length (bufferWordsInChunk b o) ≡ bufferStride
+unfolding bufferWordsInChunk
 length-bufferWords b o = refl
 
 module _ (cells : List (Cell Bytes Bytes)) (short : length cells ≤ chunkLimit) (sm5 : Bool) where
-  pub buffer-read : (b : CBufferDef Bytes Bytes) (o : ℕ × Section) (at : ℕ) → BufferAt cells sm5 b o → WordsAt cells at (bufferWords b o)
+  pub buffer-read : (b : CBufferDef Bytes Bytes) (o : ℕ × Section) (at : ℕ) → BufferAt cells sm5 b o → WordsAt cells at (bufferWordsInChunk b o)
       → (p : CBufferDef Text Text) × Takes (readBuffer (bytesOf cells) sm5 at) (bufferCost b) p × BufferRead cells b o p
-  unfolding readBuffer mapBuffer bufferFrom bufferWords Words bufferNumbers
+  unfolding readBuffer mapBuffer bufferFromChunk bufferWordsInChunk EachIsWord bufferNumbers
   buffer-read b o at there h =
-      let (vs, taken, views) = many-read cells (variableWords sm5) (variableStride sm5) (length-variableWords sm5) (readVariable (bytesOf cells) sm5) variableCost (VariableAt cells sm5) (VariableRead cells)
+      let (vs, taken, views) = many-read cells (variableWordsInChunk sm5) (variableStride sm5) (length-variableWords sm5) (readVariable (bytesOf cells) sm5) variableCost (VariableAt cells sm5) (VariableRead cells)
       (variable-read cells short sm5) (b .variables) (o .1 .offsets) (o .1 .start) (there .section .variables) (there .section .stands) in
       let name : Text = inChunk (o .0) (length (b .name)) in
       let p : CBufferDef Text Text = record { name = name; size = b .size; flags = b .flags; cb-type = b .cb-type; variables = vs } in
@@ -127,11 +127,11 @@ module _ (cells : List (Cell Bytes Bytes)) (short : length cells ≤ chunkLimit)
           h
 
   section-leaves : (b : CBufferDef Bytes Bytes) → ReadableBuffer sm5 b → (at : ℕ)
-      → Leaves cells sm5 at (ahead (length (b .variables) * variableSize sm5) (rows (variableWords sm5) (b .variables)) (placeVariables bytesOracle sm5 (eqb (b .cb-type) 0) (b .variables)))
+      → Leaves cells sm5 at (ahead (length (b .variables) * variableSize sm5) (rows (variableWordsInChunk sm5) (b .variables)) (placeVariables bytesOracle sm5 (eqb (b .cb-type) 0) (b .variables)))
       (λ os at′. SectionAt cells sm5 b (record { start = at; offsets = os }))
   section-leaves b fine at =
-      ahead-leaves at (length (b .variables) * variableSize sm5) (rows (variableWords sm5) (b .variables)) (placeVariables bytesOracle sm5 (eqb (b .cb-type) 0) (b .variables))
-      (λ ps. rows-length (variableWords sm5) (variableSize sm5) (variable-words-length sm5) (b .variables) _ (variables-length bytesOracle sm5 (eqb (b .cb-type) 0) (b .variables) _ ps))
+      ahead-leaves at (length (b .variables) * variableSize sm5) (rows (variableWordsInChunk sm5) (b .variables)) (placeVariables bytesOracle sm5 (eqb (b .cb-type) 0) (b .variables))
+      (λ ps. rows-length (variableWordsInChunk sm5) (variableSize sm5) (variable-words-length sm5) (b .variables) _ (variables-length bytesOracle sm5 (eqb (b .cb-type) 0) (b .variables) _ ps))
       (placeVariables-leaves cells short sm5 (b .variables) (fine .variables) (eqb (b .cb-type) 0) _)
       (λ os at₁ all h. record { stands = h; variables = all })
 
@@ -173,14 +173,14 @@ module _ (cells : List (Cell Bytes Bytes)) (short : length cells ≤ chunkLimit)
 -- The buffers' records stand at an offset, and what they hold where they say.
 pub record BuffersAt (cells : List (Cell Bytes Bytes)) (sm5 : Bool) (bs : List (CBufferDef Bytes Bytes)) (placed : ℕ × List (ℕ × Section)) : Type 0 where
   pub all : Zip (BufferAt cells sm5) bs (placed .1)
-  pub stand : WordsAt cells (placed .0) (rows bufferWords bs (placed .1))
+  pub stand : WordsAt cells (placed .0) (rows bufferWordsInChunk bs (placed .1))
 
 module _ (cells : List (Cell Bytes Bytes)) (short : length cells ≤ chunkLimit) (sm5 : Bool) where
   records-leave : (bs : List (CBufferDef Bytes Bytes)) → All (ReadableBuffer sm5) bs → (at : ℕ)
-      → Leaves cells sm5 at (ahead (length bs * bufferSize) (rows bufferWords bs) (placeBufferParts bytesOracle sm5 bs)) (λ os at′. BuffersAt cells sm5 bs (at, os))
+      → Leaves cells sm5 at (ahead (length bs * bufferSize) (rows bufferWordsInChunk bs) (placeBufferParts bytesOracle sm5 bs)) (λ os at′. BuffersAt cells sm5 bs (at, os))
   records-leave bs fine at =
-      ahead-leaves at (length bs * bufferSize) (rows bufferWords bs) (placeBufferParts bytesOracle sm5 bs)
-      (λ ps. rows-length bufferWords bufferSize buffer-words-length bs _ (buffer-parts-length bytesOracle sm5 bs _ ps))
+      ahead-leaves at (length bs * bufferSize) (rows bufferWordsInChunk bs) (placeBufferParts bytesOracle sm5 bs)
+      (λ ps. rows-length bufferWordsInChunk bufferSize buffer-words-length bs _ (buffer-parts-length bytesOracle sm5 bs _ ps))
       (placeBufferParts-leaves cells short sm5 bs fine _)
       (λ os at₁ all h. record { all = all; stand = h })
 

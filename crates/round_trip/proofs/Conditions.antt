@@ -14,11 +14,12 @@ use Rattle.codes.specs.Microsoft.{inputTypes, srvDimensions}
 use Rattle.codes.specs.Flags.{bindingFlagsAllowed}
 use Rattle.reflection.specs.Limits.{bindingRoom, bufferRoom, variableRoom}
 use Rattle.reflection.specs.Reflection.{TypeNumbers, TypeDesc, typeDesc, Members, noMember, member, memberCount, CBufferVariable, CBufferDef, ResourceBinding, ResourceDef, isSm5, isWide, identifierOf, strideOf, slotsOf}
-use Rattle.reflection.specs.Nodes.{Fits, FitsAll, typeLevels}
+use Rattle.reflection.specs.Nodes.{typeLevels}
+use Rattle.reflection.proofs.Levels.{Fits, FitsAll}
 use Rattle.reflection.specs.Tables.{allVariables}
 use Rattle.reflection.specs.Contents.{Bytes, typeNames, memberNames, variableNames, outerNames, innerNames}
 use Rattle.readable.specs.Readable.{every, nameReadable, defaultReadable, zeroUnless, versionReadable, bindingReadable, numbersReadable, typeReadable, membersReadable, variableReadable, roomKept, readableContents}
-use Rattle.round_trip.specs.RoundTrip.{typeNumbers, memberNumbers, variableNumbers, bindingNumbers, bufferNumbers, Words, AllWords, BuffersWords, NumbersAreWords}
+use Rattle.round_trip.specs.RoundTrip.{typeNumbers, memberNumbers, variableNumbers, bindingNumbers, bufferNumbers, EachIsWord, AllWords, BuffersWords, NumbersAreWords}
 use Rattle.round_trip.proofs.Lists.{All, all-append, every-all}
 use Rattle.round_trip.proofs.Holds.{Longer}
 
@@ -58,13 +59,13 @@ pub record ReadableVariable (sm5 : Bool) (v : CBufferVariable Bytes Bytes) : Typ
 
 pub record ReadableBuffer (sm5 : Bool) (b : CBufferDef Bytes Bytes) : Type 0 where
   pub name : nameReadable (b .name) ≡ true
-  pub words : Words (bufferNumbers b)
+  pub words : EachIsWord (bufferNumbers b)
   pub few : length (b .variables) ≤ variableRoom
   pub variables : All (ReadableVariable sm5) (b .variables)
 
 pub record ReadableBinding (wide : Bool) (b : ResourceBinding Bytes) : Type 0 where
   pub name : nameReadable (b .name) ≡ true
-  pub words : Words (bindingNumbers b)
+  pub words : EachIsWord (bindingNumbers b)
   pub input-type : known inputTypes (b .input-type) ≡ true
   pub dimension : known srvDimensions (b .dimension) ≡ true
   pub flags : bindingFlagsAllowed (b .flags) ≡ true
@@ -72,7 +73,7 @@ pub record ReadableBinding (wide : Bool) (b : ResourceBinding Bytes) : Type 0 wh
 
 pub record Readable (r : ResourceDef Bytes Bytes) : Type 0 where
   pub version : versionReadable (r .target-version) (r .rd11) ≡ true
-  pub words : Words (r .target-version ∷ r .compile-flags ∷ identifierOf (r .rd11) ∷ strideOf (r .rd11) ∷ slotsOf (r .rd11) ∷ [])
+  pub words : EachIsWord (r .target-version ∷ r .compile-flags ∷ identifierOf (r .rd11) ∷ strideOf (r .rd11) ∷ slotsOf (r .rd11) ∷ [])
   pub creator : nameReadable (r .creator) ≡ true
   pub bindings : All (ReadableBinding (isWide (r .rd11))) (r .bindings)
   pub buffers : All (ReadableBuffer (isSm5 (r .rd11))) (r .constant-buffers)
@@ -82,13 +83,13 @@ pub record Readable (r : ResourceDef Bytes Bytes) : Type 0 where
 abbrev Named : List Bytes → Type 0
 Named ns = All (λ n. nameReadable n ≡ true) ns
 
-words-append : (xs ys : List ℕ) → Words (xs ++ ys) → Words xs × Words ys
-unfolding Words
+words-append : (xs ys : List ℕ) → EachIsWord (xs ++ ys) → EachIsWord xs × EachIsWord ys
+unfolding EachIsWord
 words-append [] ys h = (tt, h)
 words-append (x ∷ xs) ys h = let (a, b) = words-append xs ys (h .1) in ((h .0, a), b)
 
-longer-all : (longer : Bool) (ws : List ℕ) → zeroUnless longer ws ≡ true → Words ws → All (Longer longer) ws
-unfolding Words zeroUnless every
+longer-all : (longer : Bool) (ws : List ℕ) → zeroUnless longer ws ≡ true → EachIsWord ws → All (Longer longer) ws
+unfolding EachIsWord zeroUnless every
 longer-all longer [] e h = tt
 longer-all false (w ∷ ws) e h =
     let (a, b) = and-true (eqb w 0) (every (λ w. eqb w 0) ws) e in
@@ -103,7 +104,7 @@ named-if true n e = tt
 small : (n : ℕ) → leb n 65535 ≡ true → n < 65536
 small n e = omega (arith, leb-true n 65535 e)
 
-readable-numbers : (sm5 : Bool) (k : TypeNumbers) → numbersReadable sm5 k ≡ true → Words (k .extra0 ∷ k .extra1 ∷ k .extra2 ∷ k .extra3 ∷ []) → ReadableNumbers sm5 k
+readable-numbers : (sm5 : Bool) (k : TypeNumbers) → numbersReadable sm5 k ≡ true → EachIsWord (k .extra0 ∷ k .extra1 ∷ k .extra2 ∷ k .extra3 ∷ []) → ReadableNumbers sm5 k
 unfolding numbersReadable
 readable-numbers sm5 k e h =
     let (halves, extra) = and-true (every (λ n. leb n 65535) (k .class ∷ k .var-type ∷ k .rows ∷ k .columns ∷ k .elements ∷ [])) (zeroUnless sm5 (k .extra0 ∷ k .extra1 ∷ k .extra2 ∷ k .extra3 ∷ [])) e in
@@ -112,9 +113,9 @@ readable-numbers sm5 k e h =
     record { class = small _ class; var-type = small _ var-type; rows = small _ rows; columns = small _ columns; elements = small _ elements; extra0 = e₀; extra1 = e₁; extra2 = e₂; extra3 = e₃ }
 
 mutual
-  unfolding typeReadable ReadableType Fits typeNames typeNumbers Words
+  unfolding typeReadable ReadableType Fits typeNames typeNumbers EachIsWord
 
-  readable-type : (sm5 : Bool) (t : TypeDesc Bytes) (levels : ℕ) → typeReadable sm5 t levels ≡ true → Named (typeNames t) → Words (typeNumbers t)
+  readable-type : (sm5 : Bool) (t : TypeDesc Bytes) (levels : ℕ) → typeReadable sm5 t levels ≡ true → Named (typeNames t) → EachIsWord (typeNumbers t)
       → ReadableType sm5 t × Fits t levels
   readable-type sm5 (typeDesc k n ms) zero e names words = absurd (let z : _≡_ {A = ℕ} 0 1 = cc in omega arith)
   readable-type sm5 (typeDesc k n ms) (suc levels) e names words =
@@ -124,7 +125,7 @@ mutual
       let members = readable-members sm5 ms levels e₃ (names .1) (words .1 .1 .1 .1) in
       ((readable-numbers sm5 k numbers (words .0, (words .1 .0, (words .1 .1 .0, (words .1 .1 .1 .0, tt)))), named-if sm5 n named, small (memberCount ms) count, members .0, names .0), members .1)
 
-  readable-members : (sm5 : Bool) (ms : Members Bytes) (levels : ℕ) → membersReadable sm5 ms levels ≡ true → Named (memberNames ms) → Words (memberNumbers ms)
+  readable-members : (sm5 : Bool) (ms : Members Bytes) (levels : ℕ) → membersReadable sm5 ms levels ≡ true → Named (memberNames ms) → EachIsWord (memberNumbers ms)
       → ReadableMembers sm5 ms × FitsAll ms levels
   readable-members sm5 noMember levels e names words = (tt, tt)
   readable-members sm5 (member n o t ms) levels e names words =
@@ -136,8 +137,8 @@ mutual
       ((words .0, here .0, rest .0, names .0), (here .1, rest .1))
 
 readable-variable : (sm5 : Bool) (v : CBufferVariable Bytes Bytes) → variableReadable sm5 v ≡ true → nameReadable (v .name) ≡ true → Named (typeNames (v .var-type))
-    → Words (variableNumbers v) → ReadableVariable sm5 v
-unfolding variableReadable variableNumbers Words
+    → EachIsWord (variableNumbers v) → ReadableVariable sm5 v
+unfolding variableReadable variableNumbers EachIsWord
 readable-variable sm5 v e name names words =
     let slots = v .texture-start ∷ v .texture-size ∷ v .sampler-start ∷ v .sampler-size ∷ [] in
     let (default, e₁) = and-true (defaultReadable (v .size) (v .default-value)) (zeroUnless sm5 slots && typeReadable sm5 (v .var-type) typeLevels) e in
@@ -182,8 +183,8 @@ readable-buffers sm5 (b ∷ bs) outer few e names words =
       readable-buffers sm5 bs (outer .1) (omega (arith, count)) others other-names (words .1 .1),
     )
 
-readable-binding : (wide : Bool) (b : ResourceBinding Bytes) → bindingReadable wide b ≡ true → nameReadable (b .name) ≡ true → Words (bindingNumbers b) → ReadableBinding wide b
-unfolding bindingReadable bindingNumbers Words
+readable-binding : (wide : Bool) (b : ResourceBinding Bytes) → bindingReadable wide b ≡ true → nameReadable (b .name) ≡ true → EachIsWord (bindingNumbers b) → ReadableBinding wide b
+unfolding bindingReadable bindingNumbers EachIsWord
 readable-binding wide b e name words =
     let (input-type, e₁) = and-true (known inputTypes (b .input-type)) (known srvDimensions (b .dimension) && (bindingFlagsAllowed (b .flags) && zeroUnless wide (b .space ∷ b .id ∷ []))) e in
     let (dimension, e₂) = and-true (known srvDimensions (b .dimension)) (bindingFlagsAllowed (b .flags) && zeroUnless wide (b .space ∷ b .id ∷ [])) e₁ in

@@ -17,10 +17,10 @@ use Rattle.reflection.specs.Contents.{Bytes}
 use Rattle.reading.specs.Read.{chunkRd11Allowed, readRd11}
 use Rattle.readable.specs.Readable.{versionReadable, roomKept}
 use Rattle.writing.specs.Step.{Cell}
-use Rattle.writing.specs.Records.{rd11Words, BodyOffsets, headerWords, headerSize}
+use Rattle.writing.specs.Records.{rd11Words, BodyOffsets, headerWordsInChunk, headerWordCount}
 use Rattle.writing.specs.Layout.{placeBody}
 use Rattle.writing.specs.Canonical.{bytesOracle, fill}
-use Rattle.round_trip.specs.RoundTrip.{Words}
+use Rattle.round_trip.specs.RoundTrip.{EachIsWord}
 use Rattle.round_trip.proofs.Holds.{bytesOf, WordsAt, words-fit}
 use Rattle.round_trip.proofs.Rooms.{noCost, Takes, free-then, return-takes, returns, check-takes, leb-takes}
 use Rattle.round_trip.proofs.Texts.{NameAt}
@@ -48,27 +48,27 @@ placeBody-leaves cells short r fine at =
     return-leaves _ (record { names = names; bindings = bindings; buffers = placed; creator = named })
 
 -- The header's length.
-pub header-size : (sm5 : Bool) → (headerSize false ≤ headerSize sm5) × (headerSize sm5 ≤ headerSize true)
+pub header-size : (sm5 : Bool) → (headerWordCount false ≤ headerWordCount sm5) × (headerWordCount sm5 ≤ headerWordCount true)
 header-size false = (omega arith, omega arith)
 header-size true = (omega arith, omega arith)
 
-length-rd11Words : (words : Rd11) → headerSize false + length (rd11Words words) ≡ headerSize (isSm5 words)
+length-rd11Words : (words : Rd11) → headerWordCount false + length (rd11Words words) ≡ headerWordCount (isSm5 words)
 unfolding rd11Words
 length-rd11Words noRd11 = refl
 length-rd11Words (rd11 identifier stride slots) = refl
 
-pub length-headerWords : (r : ResourceDef Bytes Bytes) (o : BodyOffsets) → length (headerWords r o) ≡ headerSize (isSm5 (r .rd11))
-unfolding headerWords
+pub length-headerWords : (r : ResourceDef Bytes Bytes) (o : BodyOffsets) → length (headerWordsInChunk r o) ≡ headerWordCount (isSm5 (r .rd11))
+unfolding headerWordsInChunk
 length-headerWords r o = omega (arith, length-rd11Words (r .rd11))
 
 -- The header's numbers are words.
-rd11-small : (words : Rd11) → Words (identifierOf words ∷ strideOf words ∷ slotsOf words ∷ []) → Words (rd11Words words)
-unfolding rd11Words Words
+rd11-small : (words : Rd11) → EachIsWord (identifierOf words ∷ strideOf words ∷ slotsOf words ∷ []) → EachIsWord (rd11Words words)
+unfolding rd11Words EachIsWord
 rd11-small noRd11 h = tt
 rd11-small (rd11 identifier stride slots) h = (h .0, (omega arith, (omega arith, (h .1 .0, (omega arith, (omega arith, (omega arith, (h .1 .1 .0, tt))))))))
 
-pub header-small : (cells : List (Cell Bytes Bytes)) → length cells ≤ chunkLimit → (r : ResourceDef Bytes Bytes) (at : ℕ) (o : BodyOffsets) → Readable r → BodyAt cells r at o → Words (headerWords r o)
-unfolding headerWords Words roomKept
+pub header-small : (cells : List (Cell Bytes Bytes)) → length cells ≤ chunkLimit → (r : ResourceDef Bytes Bytes) (at : ℕ) (o : BodyOffsets) → Readable r → BodyAt cells r at o → EachIsWord (headerWordsInChunk r o)
+unfolding headerWordsInChunk EachIsWord roomKept
 header-small cells short r at o fine there =
     let (bindings, e₁) = and-true (leb (length (r .bindings)) bindingRoom) _ (fine .room) in
     let (buffers, _) = and-true (leb (length (r .constant-buffers)) bufferRoom) _ e₁ in (

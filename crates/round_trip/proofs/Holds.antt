@@ -18,7 +18,7 @@ use Rattle.reading.specs.Read.{wordIf}
 use Rattle.writing.specs.Step.{Cell, byte, wordCells}
 use Rattle.writing.specs.Records.{wordsIf}
 use Rattle.writing.specs.Canonical.{fill}
-use Rattle.round_trip.specs.RoundTrip.{Words}
+use Rattle.round_trip.specs.RoundTrip.{EachIsWord}
 use Rattle.round_trip.proofs.Lists.{All, drop-map}
 
 pub record Holds {A : Type 0} (out : List A) (at : ℕ) (part : List A) : Type 0 where
@@ -79,8 +79,8 @@ abbrev pub Longer : Bool → ℕ → Type 0
 Longer false w = w ≡ 0
 Longer true w = w < 4294967296
 
-longer-words : (ws : List ℕ) → All (Longer true) ws → Words ws
-unfolding Words
+longer-words : (ws : List ℕ) → All (Longer true) ws → EachIsWord ws
+unfolding EachIsWord
 longer-words [] h = tt
 longer-words (w ∷ ws) h = (h .0, longer-words ws (h .1))
 
@@ -104,8 +104,8 @@ module _ (cells : List (Cell Bytes Bytes)) where
   )
 
   -- Word j of a row of words: one law for every record, whatever its stride.
-  pub row-word : (at : ℕ) (ws : List ℕ) (j : ℕ) → Words ws → j < length ws → WordsAt cells at ws → wordAt (bytesOf cells) (at + 4 * j) ≡ getD ws j 0
-  unfolding Words
+  pub row-word : (at : ℕ) (ws : List ℕ) (j : ℕ) → EachIsWord ws → j < length ws → WordsAt cells at ws → wordAt (bytesOf cells) (at + 4 * j) ≡ getD ws j 0
+  unfolding EachIsWord
   row-word at [] j small lt h = absurd (omega arith)
   row-word at (w ∷ ws) zero small lt h = ap (wordAt out) (add-zero at) ∙ words-first at w ws (small .0) h .0
   row-word at (w ∷ ws) (suc j) small lt h =

@@ -14,10 +14,10 @@ use Rattle.reflection.specs.Outcome.{ok}
 use Rattle.reflection.specs.Reflection.{TypeDesc, Members, CBufferVariable, CBufferDef, ResourceBinding, ResourceDef, Rd11, majorOf, identifierOf, strideOf, slotsOf, isSm5, isWide}
 use Rattle.reflection.specs.Nodes.{typeLevels}
 use Rattle.reflection.specs.Contents.{Bytes, contents}
-use Rattle.reading.specs.Step.{Room, Step, return, refuse}
-use Rattle.reading.specs.Read.{wordIf, readMany, readMembers, numbersFrom, readType, readVariable, variableFrom, readBuffer, bufferFrom, readBinding, bindingFrom, readRd11, readTables, readChunk, read}
+use Rattle.reading.specs.Step.{Room, ReadStep, return, refuse}
+use Rattle.reading.specs.Read.{wordIf, readMany, readMembers, numbersFrom, readType, readVariable, variableFromChunk, readBuffer, bufferFromChunk, readBinding, bindingFromChunk, readRd11, readTables, readChunk, read}
 use Rattle.readable.proofs.Leaves.{Leaves, then-leaves, check-leaves, text-leaves, binding-leaves, buffer-leaves, variable-leaves, type-leaves, many-leaves, value-left}
-use Rattle.round_trip.specs.RoundTrip.{typeNumbers, memberNumbers, variableNumbers, bindingNumbers, bufferNumbers, Words, AllWords, BuffersWords, NumbersAreWords}
+use Rattle.round_trip.specs.RoundTrip.{typeNumbers, memberNumbers, variableNumbers, bindingNumbers, bufferNumbers, EachIsWord, AllWords, BuffersWords, NumbersAreWords}
 use Rattle.round_trip.proofs.HeldWords.{words-append, map-words}
 
 module _ (chunk : Bytes) (bytes : (i : ℕ) → getD chunk i 0 < 256) where
@@ -30,13 +30,13 @@ module _ (chunk : Bytes) (bytes : (i : ℕ) → getD chunk i 0 < 256) where
   word-if false at = omega arith
 
   abbrev TypeWords : TypeDesc Text → Room → Type 0
-  TypeWords t r = Words (typeNumbers t)
+  TypeWords t r = EachIsWord (typeNumbers t)
 
   abbrev MembersWords : Members Text → Room → Type 0
-  MembersWords ms r = Words (memberNumbers ms)
+  MembersWords ms r = EachIsWord (memberNumbers ms)
 
-  members-words : (read : ℕ → Step (TypeDesc Text)) → ((at : ℕ) (r : Room) → Leaves TypeWords (read at r)) → (n at : ℕ) (r : Room) → Leaves MembersWords (readMembers read chunk n at r)
-  unfolding readMembers return memberNumbers Words
+  members-words : (read : ℕ → ReadStep (TypeDesc Text)) → ((at : ℕ) (r : Room) → Leaves TypeWords (read at r)) → (n at : ℕ) (r : Room) → Leaves MembersWords (readMembers read chunk n at r)
+  unfolding readMembers return memberNumbers EachIsWord
   members-words read h zero at r = tt
   members-words read h (suc n) at r =
       check-leaves MembersWords _ _ _ r (λ inside.
@@ -46,7 +46,7 @@ module _ (chunk : Bytes) (bytes : (i : ℕ) → getD chunk i 0 < 256) where
       (word (at + 8), words-append (typeNumbers t) (memberNumbers ms) type others)))))
 
   type-words : (sm5 : Bool) (levels : ℕ) (path : List ℕ) (at : ℕ) (r : Room) → Leaves TypeWords (readType chunk sm5 levels path at r)
-  unfolding readType numbersFrom return refuse typeNumbers Words
+  unfolding readType numbersFrom return refuse typeNumbers EachIsWord
   type-words sm5 zero path at r = tt
   type-words sm5 (suc levels) path at r =
       check-leaves TypeWords _ _ _ r (λ fresh.
@@ -57,10 +57,10 @@ module _ (chunk : Bytes) (bytes : (i : ℕ) → getD chunk i 0 < 256) where
       (word-if sm5 (at + 16), (word-if sm5 (at + 20), (word-if sm5 (at + 24), (word-if sm5 (at + 28), members)))))))))
 
   abbrev VariableWords : CBufferVariable Text Text → Room → Type 0
-  VariableWords v r = Words (variableNumbers v)
+  VariableWords v r = EachIsWord (variableNumbers v)
 
   variable-words : (sm5 : Bool) (at : ℕ) (r : Room) → Leaves VariableWords (readVariable chunk sm5 at r)
-  unfolding readVariable variableFrom return variableNumbers Words
+  unfolding readVariable variableFromChunk return variableNumbers EachIsWord
   variable-words sm5 at r =
       variable-leaves VariableWords _ r (λ r′ taken.
       check-leaves VariableWords _ _ _ r′ (λ fits.
@@ -72,14 +72,14 @@ module _ (chunk : Bytes) (bytes : (i : ℕ) → getD chunk i 0 < 256) where
   variables-words : (sm5 : Bool) (n at : ℕ) (r : Room) → Leaves (λ vs r′. AllWords variableNumbers vs) (readMany (readVariable chunk sm5) (variableStride sm5) n at r)
   unfolding AllWords
   variables-words sm5 n at r =
-      many-leaves (λ v r r′. Words (variableNumbers v)) (λ vs r r′. AllWords variableNumbers vs) (λ r. tt) (λ v vs r r′ r″ one others. (one, others))
+      many-leaves (λ v r r′. EachIsWord (variableNumbers v)) (λ vs r r′. AllWords variableNumbers vs) (λ r. tt) (λ v vs r r′ r″ one others. (one, others))
       (readVariable chunk sm5) (variable-words sm5) (variableStride sm5) n at r
 
   abbrev BufferWords : CBufferDef Text Text → Room → Type 0
-  BufferWords b r = Words (bufferNumbers b) × AllWords variableNumbers (b .variables)
+  BufferWords b r = EachIsWord (bufferNumbers b) × AllWords variableNumbers (b .variables)
 
   buffer-words : (sm5 : Bool) (at : ℕ) (r : Room) → Leaves BufferWords (readBuffer chunk sm5 at r)
-  unfolding readBuffer bufferFrom return bufferNumbers Words
+  unfolding readBuffer bufferFromChunk return bufferNumbers EachIsWord
   buffer-words sm5 at r =
       buffer-leaves BufferWords _ r (λ r′ taken.
       check-leaves BufferWords _ _ _ r′ (λ fits.
@@ -94,10 +94,10 @@ module _ (chunk : Bytes) (bytes : (i : ℕ) → getD chunk i 0 < 256) where
       (readBuffer chunk sm5) (buffer-words sm5) bufferStride n at r
 
   abbrev BindingWords : ResourceBinding Text → Room → Type 0
-  BindingWords b r = Words (bindingNumbers b)
+  BindingWords b r = EachIsWord (bindingNumbers b)
 
   binding-words : (wide : Bool) (at : ℕ) (r : Room) → Leaves BindingWords (readBinding chunk wide at r)
-  unfolding readBinding bindingFrom return bindingNumbers Words
+  unfolding readBinding bindingFromChunk return bindingNumbers EachIsWord
   binding-words wide at r =
       binding-leaves BindingWords _ r (λ r′ taken.
       check-leaves BindingWords _ _ _ r′ (λ fits.
@@ -110,22 +110,22 @@ module _ (chunk : Bytes) (bytes : (i : ℕ) → getD chunk i 0 < 256) where
   bindings-words : (wide : Bool) (n at : ℕ) (r : Room) → Leaves (λ bs r′. AllWords bindingNumbers bs) (readMany (readBinding chunk wide) (bindingStride wide) n at r)
   unfolding AllWords
   bindings-words wide n at r =
-      many-leaves (λ b r r′. Words (bindingNumbers b)) (λ bs r r′. AllWords bindingNumbers bs) (λ r. tt) (λ b bs r r′ r″ one others. (one, others))
+      many-leaves (λ b r r′. EachIsWord (bindingNumbers b)) (λ bs r r′. AllWords bindingNumbers bs) (λ r. tt) (λ b bs r r′ r″ one others. (one, others))
       (readBinding chunk wide) (binding-words wide) (bindingStride wide) n at r
 
   abbrev Rd11Words : Rd11 → Room → Type 0
-  Rd11Words words r = Words (identifierOf words ∷ strideOf words ∷ slotsOf words ∷ [])
+  Rd11Words words r = EachIsWord (identifierOf words ∷ strideOf words ∷ slotsOf words ∷ [])
 
   rd11-words : (five : Bool) (r : Room) → Leaves Rd11Words (readRd11 chunk five r)
-  unfolding readRd11 return Words
+  unfolding readRd11 return EachIsWord
   rd11-words true r = check-leaves Rd11Words _ _ _ r (λ long. check-leaves Rd11Words _ _ _ r (λ allowed. (word 28, (word 40, (word 56, tt)))))
   rd11-words false r = (omega arith, (omega arith, (omega arith, tt)))
 
   abbrev DefWords : ResourceDef Text Text → Room → Type 0
   DefWords d r = NumbersAreWords d
 
-  tables-words : (creator : Text) (words : Rd11) → Words (identifierOf words ∷ strideOf words ∷ slotsOf words ∷ []) → (r : Room) → Leaves DefWords (readTables chunk creator words r)
-  unfolding readTables return Words
+  tables-words : (creator : Text) (words : Rd11) → EachIsWord (identifierOf words ∷ strideOf words ∷ slotsOf words ∷ []) → (r : Room) → Leaves DefWords (readTables chunk creator words r)
+  unfolding readTables return EachIsWord
   tables-words creator words three r =
       then-leaves (λ bs r′. AllWords bindingNumbers bs) DefWords _ _ r (bindings-words (isWide words) _ _ r) (λ bs r′ bindings.
       then-leaves (λ fs r″. BuffersWords fs) DefWords _ _ r′ (buffers-words (isSm5 words) _ _ r′) (λ fs r″ buffers.

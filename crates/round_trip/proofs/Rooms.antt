@@ -11,7 +11,7 @@ use Rattle.text.specs.declared.Found.{Found}
 use Rattle.text.specs.declared.Found.the-variants.{At}
 use Rattle.reflection.specs.Outcome.{Outcome, ok}
 use Rattle.reflection.specs.Texts.{inChunk}
-use Rattle.reading.specs.Step.{Room, room, Step, andThen, _>>=_, return, check, textOr, oneLess, takeBinding, takeBuffer, takeVariable, takeType}
+use Rattle.reading.specs.Step.{Room, room, ReadStep, andThen, _>>=_, return, check, textOr, oneLess, takeBinding, takeBuffer, takeVariable, takeType}
 use Rattle.reading.specs.Read.{onPath}
 use Rattle.round_trip.proofs.Lists.{All}
 
@@ -31,11 +31,11 @@ pub record Enough (c s : Room) : Type 0 where
   pub types : c .types ≤ s .types
 
 -- With room for c, the step gives a and takes c.
-pub record Takes {A : Type 0} (m : Step A) (c : Room) (a : A) : Type 0 where
+pub record Takes {A : Type 0} (m : ReadStep A) (c : Room) (a : A) : Type 0 where
   pub gives : (s : Room) → Enough c s → m s ≡ ok (a, minus s c)
 
 -- With room for c, the step gives what stands for v by `view`, and takes c.
-pub record Reads {P Q : Type 0} (m : Step P) (c : Room) (view : P → Q) (v : Q) : Type 0 where
+pub record Reads {P Q : Type 0} (m : ReadStep P) (c : Room) (view : P → Q) (v : Q) : Type 0 where
   pub found : P
   pub takes : Takes m c found
   pub is : view found ≡ v
@@ -43,7 +43,7 @@ pub record Reads {P Q : Type 0} (m : Step P) (c : Room) (view : P → Q) (v : Q)
 pub same-room : (c d : Room) → c .bindings ≡ d .bindings → c .buffers ≡ d .buffers → c .variables ≡ d .variables → c .types ≡ d .types → c ≡ d
 same-room c d p q r s = λ i. record { bindings = p i; buffers = q i; variables = r i; types = s i }
 
-pub then-takes : {A B : Type 0} {a : A} {b : B} {m : Step A} (f : A → Step B) (c d : Room) → Takes m c a → Takes (f a) d b → Takes (m >>= f) (plus c d) b
+pub then-takes : {A B : Type 0} {a : A} {b : B} {m : ReadStep A} (f : A → ReadStep B) (c d : Room) → Takes m c a → Takes (f a) d b → Takes (m >>= f) (plus c d) b
 unfolding _>>=_
 then-takes {A} {B} {a} {b} {m} f c d p q = record {
   gives = λ s enough.
@@ -53,11 +53,11 @@ then-takes {A} {B} {a} {b} {m} f c d p q = record {
 }
 
 -- A step that takes nothing, and then another; a step, and then one that takes nothing.
-pub free-then : {A B : Type 0} {a : A} {b : B} {m : Step A} (f : A → Step B) (d : Room) → Takes m noCost a → Takes (f a) d b → Takes (m >>= f) d b
+pub free-then : {A B : Type 0} {a : A} {b : B} {m : ReadStep A} (f : A → ReadStep B) (d : Room) → Takes m noCost a → Takes (f a) d b → Takes (m >>= f) d b
 free-then {a} {b} {m} f d p q =
     subst (λ c. Takes (m >>= f) c b) (same-room (plus noCost d) d (omega arith) (omega arith) (omega arith) (omega arith)) (then-takes f noCost d p q)
 
-pub then-free : {A B : Type 0} {a : A} {b : B} {m : Step A} (f : A → Step B) (c : Room) → Takes m c a → Takes (f a) noCost b → Takes (m >>= f) c b
+pub then-free : {A B : Type 0} {a : A} {b : B} {m : ReadStep A} (f : A → ReadStep B) (c : Room) → Takes m c a → Takes (f a) noCost b → Takes (m >>= f) c b
 then-free {a} {b} {m} f c p q =
     subst (λ d. Takes (m >>= f) d b) (same-room (plus c noCost) c (omega arith) (omega arith) (omega arith) (omega arith)) (then-takes f c noCost p q)
 

@@ -12,7 +12,7 @@ use lib.ListN.{length, getD, length-map}
 use Rattle.words.specs.Words.{wordAt}
 use Rattle.text.specs.Strings.{cstringAt}
 use Rattle.reflection.specs.Limits.{chunkLimit}
-use Rattle.reflection.specs.Strides.{headerSize as headerBytes, bindingStride, bufferStride}
+use Rattle.reflection.specs.Strides.{headerSize, bindingStride, bufferStride}
 use Rattle.reflection.specs.declared.Text.{Text}
 use Rattle.reflection.specs.Reflection.{ResourceDef, mapBinding, mapBuffer, mapDef, majorOf, isSm5, isWide}
 use Rattle.reflection.specs.Texts.{inChunk}
@@ -21,7 +21,7 @@ use Rattle.reading.specs.Step.{fullRoom}
 use Rattle.reading.specs.Read.{readMany, readBinding, readBuffer, readRd11, readTables, readChunk, withoutRoom, read}
 use Rattle.readable.specs.Readable.{readableContents}
 use Rattle.writing.specs.Step.{Cell, pools, Placed, wordCells, ahead}
-use Rattle.writing.specs.Records.{BodyOffsets, headerWords, headerSize, bindingWords, bufferWords}
+use Rattle.writing.specs.Records.{BodyOffsets, headerWordsInChunk, headerWordCount, bindingWordsInChunk, bufferWordsInChunk}
 use Rattle.writing.specs.Layout.{placeBody, placeChunk, layout}
 use Rattle.writing.specs.Canonical.{bytesOracle, fill, canonical}
 use Rattle.round_trip.specs.RoundTrip.{NumbersAreWords, cellsIn, cellsOfName, cellsOfDefault, defaultPlaces, Restored}
@@ -52,13 +52,13 @@ module _ (r : ResourceDef Bytes Bytes) (fine : Readable r) (short : length (layo
   wide = isWide (r .rd11)
 
   abbrev start : ℕ
-  start = 0 + 4 * headerSize (isSm5 (r .rd11))
+  start = 0 + 4 * headerWordCount (isSm5 (r .rd11))
 
   abbrev body : Placed Bytes Bytes BodyOffsets
-  body = placeBody bytesOracle r (0 + 4 * headerSize (isSm5 (r .rd11))) (pools [] [] [] [] [])
+  body = placeBody bytesOracle r (0 + 4 * headerWordCount (isSm5 (r .rd11))) (pools [] [] [] [] [])
 
   abbrev header : List ℕ
-  header = headerWords r (placeBody bytesOracle r (0 + 4 * headerSize (isSm5 (r .rd11))) (pools [] [] [] [] []) .result)
+  header = headerWordsInChunk r (placeBody bytesOracle r (0 + 4 * headerWordCount (isSm5 (r .rd11))) (pools [] [] [] [] []) .result)
 
   -- The layout's cells are the header's and the body's.
   whole : Holds cells 0 (wordCells header ++ body .cells)
@@ -93,11 +93,11 @@ module _ (r : ResourceDef Bytes Bytes) (fine : Readable r) (short : length (layo
     places : defaultsOf found ≡ defaultPlaces length (body .result) r
 
   chunk-read : ReadBack
-  unfolding readChunk readTables mapDef headerWords defaultsOf defaultPlaces
+  unfolding readChunk readTables mapDef headerWordsInChunk defaultsOf defaultPlaces
   chunk-read =
-      let (bs, takes-bs, views-bs) = many-read cells (bindingWords wide) (bindingStride wide) (length-bindingWords wide) (readBinding out wide) bindingCost (BindingAt cells wide) (BindingRead cells)
+      let (bs, takes-bs, views-bs) = many-read cells (bindingWordsInChunk wide) (bindingStride wide) (length-bindingWords wide) (readBinding out wide) bindingCost (BindingAt cells wide) (BindingRead cells)
       (binding-read cells short wide) (r .bindings) (there .names) start (there .bindings .all) (there .bindings .stand) in
-      let (cs, takes-cs, views-cs) = many-read cells bufferWords bufferStride length-bufferWords (readBuffer out sm5) bufferCost (BufferAt cells sm5) (BufferRead cells)
+      let (cs, takes-cs, views-cs) = many-read cells bufferWordsInChunk bufferStride length-bufferWords (readBuffer out sm5) bufferCost (BufferAt cells sm5) (BufferRead cells)
       (buffer-read cells short sm5) (r .constant-buffers) (body .result .sections) (body .result .buffers) (there .buffers .all) (there .buffers .stand) in
       let creator : Text = inChunk (body .result .creator) (length (r .creator)) in
       let p : ResourceDef Text Text = record { target-version = r .target-version; compile-flags = r .compile-flags; rd11 = r .rd11; creator = creator; bindings = bs; constant-buffers = cs } in
@@ -106,7 +106,7 @@ module _ (r : ResourceDef Bytes Bytes) (fine : Readable r) (short : length (layo
       record {
         found = p;
         takes =
-            free-then _ _ (leb-takes headerBytes (length out) _ (omega (arith, length-map cells fill, words-fit cells 0 header header-stands, length-headerWords r (body .result), header-size sm5 .0)))
+            free-then _ _ (leb-takes headerSize (length out) _ (omega (arith, length-map cells fill, words-fit cells 0 header header-stands, length-headerWords r (body .result), header-size sm5 .0)))
             (free-then _ _ (leb-takes (length out) chunkLimit _ (omega (arith, length-map cells fill)))
             (free-then _ _ (check-takes _ _ (ap (λ (v : ℕ). eqb (majorOf v) 4 || eqb (majorOf v) 5) (word 4 (omega arith)) ∙ major-known (r .rd11) (r .target-version) (fine .version)))
             (free-then _ _ (text-takes _ _ (body .result .creator) (length (r .creator)) (ap (cstringAt out) (word 6 (omega arith)) ∙ there .creator .found))
@@ -115,7 +115,7 @@ module _ (r : ResourceDef Bytes Bytes) (fine : Readable r) (short : length (layo
             (rd11-read cells (r .rd11) (r .target-version) _ _ _ _ _ _ _ (fine .version) word header-stands))
             (then-takes _ (total bindingCost (r .bindings)) (total bufferCost (r .constant-buffers))
             (subst (λ n. Takes (readMany (readBinding out wide) (bindingStride wide) n (wordAt out 12)) (total bindingCost (r .bindings)) bs) (sym (word 2 (omega arith)))
-            (subst (λ a. Takes (readMany (readBinding out wide) (bindingStride wide) (length (r .bindings)) a) (total bindingCost (r .bindings)) bs) (zero-add (4 * headerSize sm5) ∙ sym (word 3 (omega arith))) takes-bs))
+            (subst (λ a. Takes (readMany (readBinding out wide) (bindingStride wide) (length (r .bindings)) a) (total bindingCost (r .bindings)) bs) (zero-add (4 * headerWordCount sm5) ∙ sym (word 3 (omega arith))) takes-bs))
             (then-free _ _
             (subst (λ n. Takes (readMany (readBuffer out sm5) bufferStride n (wordAt out 4)) (total bufferCost (r .constant-buffers)) cs) (sym (word 0 (omega arith)))
             (subst (λ a. Takes (readMany (readBuffer out sm5) bufferStride (length (r .constant-buffers)) a) (total bufferCost (r .constant-buffers)) cs) (sym (word 1 (omega arith))) takes-cs))

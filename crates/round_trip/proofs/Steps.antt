@@ -10,11 +10,11 @@ use native.Mathlib.Omega.{arith}
 use native.Mathlib.Nat.{add-zero, le-add-right}
 use lib.ListN.{length, length-append, length-replicate}
 use Rattle.reflection.specs.Reflection.{TypeDesc, typeDesc, Members, noMember, member, mapType}
-use Rattle.reflection.specs.Nodes.{Fits}
+use Rattle.reflection.proofs.Levels.{Fits}
 use Rattle.reflection.specs.Contents.{Bytes}
 use Rattle.reading.specs.Step.{room}
 use Rattle.reading.specs.Read.{readType}
-use Rattle.writing.specs.Step.{Cell, byte, Pools, Placed, Step, _>>=_, return, append, remember, pad, paddingAt, wordCells, ahead, found, once, rememberIf, unlessEmpty, goDown, below}
+use Rattle.writing.specs.Step.{Cell, byte, Pools, Placed, WriteStep, _>>=_, return, append, remember, pad, paddingAt, wordCells, ahead, found, once, rememberIf, unlessEmpty, goDown, below}
 use Rattle.round_trip.proofs.Lists.{All, all-weaken}
 use Rattle.round_trip.proofs.Holds.{Holds, holds-left, holds-right, bytesOf, length-wordCells, WordsAt}
 use Rattle.round_trip.proofs.Rooms.{Reads}
@@ -48,7 +48,7 @@ pub record After {A : Type 0} (cells : List (Cell Bytes Bytes)) (sm5 : Bool) (at
   pub pools-hold : PoolsHold cells sm5 (at + length (r .cells)) (r .pools-after)
   pub post : Post (r .result) (at + length (r .cells))
 
-pub record Leaves {A : Type 0} (cells : List (Cell Bytes Bytes)) (sm5 : Bool) (at : ℕ) (m : Step Bytes Bytes A) (Post : A → ℕ → Type 0) : Type 0 where
+pub record Leaves {A : Type 0} (cells : List (Cell Bytes Bytes)) (sm5 : Bool) (at : ℕ) (m : WriteStep Bytes Bytes A) (Post : A → ℕ → Type 0) : Type 0 where
   pub run : (ps : Pools Bytes Bytes) → PoolsHold cells sm5 at ps → Holds cells at (m at ps .cells) → After cells sm5 at (m at ps) Post
 
 -- What appending leaves.
@@ -72,7 +72,7 @@ module _ {cells : List (Cell Bytes Bytes)} {sm5 : Bool} where
     defaults = i .defaults;
   }
 
-  pub bind-leaves : {A B : Type 0} {Q : A → ℕ → Type 0} {R : B → ℕ → Type 0} {at : ℕ} {m : Step Bytes Bytes A} {f : A → Step Bytes Bytes B}
+  pub bind-leaves : {A B : Type 0} {Q : A → ℕ → Type 0} {R : B → ℕ → Type 0} {at : ℕ} {m : WriteStep Bytes Bytes A} {f : A → WriteStep Bytes Bytes B}
       → Leaves cells sm5 at m Q → ((a : A) (at₁ : ℕ) → at ≤ at₁ → Q a at₁ → Leaves cells sm5 at₁ (f a) R) → Leaves cells sm5 at (m >>= f) R
   unfolding _>>=_
   bind-leaves {A} {B} {Q} {R} {at} {m} {f} first second = record { run = run }
@@ -88,7 +88,7 @@ module _ {cells : List (Cell Bytes Bytes)} {sm5 : Bool} where
           record { pools-hold = subst (λ n. PoolsHold cells sm5 n (q .pools-after)) cursor (d₂ .pools-hold); post = subst (R (q .result)) cursor (d₂ .post) }
 
   -- Words that stand before what a step writes.
-  pub ahead-leaves : {A : Type 0} {Q R : A → ℕ → Type 0} (at n : ℕ) (f : A → List ℕ) (m : Step Bytes Bytes A)
+  pub ahead-leaves : {A : Type 0} {Q R : A → ℕ → Type 0} (at n : ℕ) (f : A → List ℕ) (m : WriteStep Bytes Bytes A)
       → ((ps : Pools Bytes Bytes) → length (f (m (at + 4 * n) ps .result)) ≡ n)
       → Leaves cells sm5 (at + 4 * n) m Q → ((a : A) (at₁ : ℕ) → Q a at₁ → WordsAt cells at (f a) → R a at₁) → Leaves cells sm5 at (ahead n f m) R
   unfolding ahead WordsAt
@@ -108,7 +108,7 @@ module _ {cells : List (Cell Bytes Bytes)} {sm5 : Bool} where
           }
 
   -- A member's type, with the pools one level down.
-  pub below-leaves : {A : Type 0} {Post : A → ℕ → Type 0} {at : ℕ} {m : Step Bytes Bytes A} → Leaves cells sm5 at m Post → Leaves cells sm5 at (below m) Post
+  pub below-leaves : {A : Type 0} {Post : A → ℕ → Type 0} {at : ℕ} {m : WriteStep Bytes Bytes A} → Leaves cells sm5 at m Post → Leaves cells sm5 at (below m) Post
   unfolding below
   below-leaves {at = at} step = record {
     run = λ ps inv h.
@@ -162,7 +162,7 @@ module _ {cells : List (Cell Bytes Bytes)} {sm5 : Bool} where
     };
   }
 
-  pub once-leaves : {Post : ℕ → ℕ → Type 0} (share : Bool) {at : ℕ} {look : Pools Bytes Bytes → Option ℕ} {m : Step Bytes Bytes ℕ}
+  pub once-leaves : {Post : ℕ → ℕ → Type 0} (share : Bool) {at : ℕ} {look : Pools Bytes Bytes → Option ℕ} {m : WriteStep Bytes Bytes ℕ}
       → ((ps : Pools Bytes Bytes) (o : ℕ) → PoolsHold cells sm5 at ps → look ps ≡ some o → Post o at) → Leaves cells sm5 at m Post → Leaves cells sm5 at (once share look m) Post
   unfolding once
   once-leaves {Post} true {at} {look} {m} old new = record { run = λ ps inv h. go ps inv (look ps) refl h }
@@ -172,16 +172,16 @@ module _ {cells : List (Cell Bytes Bytes)} {sm5 : Bool} where
       go ps inv (some o) e h = stay at o ps inv (old ps o inv e)
   once-leaves false old new = record { run = λ ps inv h. new .run ps inv h }
 
-  pub unlessEmpty-leaves : {Post : ℕ → ℕ → Type 0} {at : ℕ} (n : ℕ) {m : Step Bytes Bytes ℕ} → (n ≡ 0 → Post 0 at) → (0 < n → Leaves cells sm5 at m Post)
+  pub unlessEmpty-leaves : {Post : ℕ → ℕ → Type 0} {at : ℕ} (n : ℕ) {m : WriteStep Bytes Bytes ℕ} → (n ≡ 0 → Post 0 at) → (0 < n → Leaves cells sm5 at m Post)
       → Leaves cells sm5 at (unlessEmpty n m) Post
   unfolding unlessEmpty
   unlessEmpty-leaves zero empty full = return-leaves 0 (empty refl)
   unlessEmpty-leaves (suc n) empty full = full (omega arith)
 
   -- The cursor is never at the chunk's start: the header stands there.
-  pub after-start : {A : Type 0} {Post : A → ℕ → Type 0} {at : ℕ} {m : Step Bytes Bytes A} → (0 < at → Leaves cells sm5 at m Post) → Leaves cells sm5 at m Post
+  pub after-start : {A : Type 0} {Post : A → ℕ → Type 0} {at : ℕ} {m : WriteStep Bytes Bytes A} → (0 < at → Leaves cells sm5 at m Post) → Leaves cells sm5 at m Post
   after-start step = record { run = λ ps inv h. step (inv .cursor) .run ps inv h }
 
-  pub weaken-leaves : {A : Type 0} {Q R : A → ℕ → Type 0} {at : ℕ} {m : Step Bytes Bytes A} → ((a : A) (at′ : ℕ) → Q a at′ → R a at′)
+  pub weaken-leaves : {A : Type 0} {Q R : A → ℕ → Type 0} {at : ℕ} {m : WriteStep Bytes Bytes A} → ((a : A) (at′ : ℕ) → Q a at′ → R a at′)
       → Leaves cells sm5 at m Q → Leaves cells sm5 at m R
   weaken-leaves f step = record { run = λ ps inv h. let d = step .run ps inv h in record { pools-hold = d .pools-hold; post = f _ _ (d .post) } }

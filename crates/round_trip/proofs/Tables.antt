@@ -4,7 +4,7 @@ use mathlib.Core.List.{List, [], _∷_}
 use Prim.Native.Nat.{ℕ, _+_, _*_}
 use lib.ListN.{length}
 use Rattle.reflection.specs.Contents.{Bytes}
-use Rattle.reading.specs.Step.{Room, Step}
+use Rattle.reading.specs.Step.{Room, ReadStep}
 use Rattle.reading.specs.Read.{readMany}
 use Rattle.writing.specs.Step.{Cell}
 use Rattle.writing.specs.Records.{rows}
@@ -18,7 +18,7 @@ total cost [] = noCost
 total cost (x ∷ xs) = plus (cost x) (total cost xs)
 
 -- `row` makes the words of a record from what is written and its offsets, `read` reads one record, `View` says what is read.
-module _ (cells : List (Cell Bytes Bytes)) {A B P : Type 0} (row : A → B → List ℕ) (stride : ℕ) (whole : (a : A) (b : B) → 4 * length (row a b) ≡ stride) (read : ℕ → Step P)
+module _ (cells : List (Cell Bytes Bytes)) {A B P : Type 0} (row : A → B → List ℕ) (stride : ℕ) (whole : (a : A) (b : B) → 4 * length (row a b) ≡ stride) (read : ℕ → ReadStep P)
     (cost : A → Room) (There : A → B → Type 0) (View : A → B → P → Type 0)
     (each : (a : A) (b : B) (at : ℕ) → There a b → WordsAt cells at (row a b) → (p : P) × Takes (read at) (cost a) p × View a b p) where
   pub many-read : (xs : List A) (bs : List B) (at : ℕ) → Zip There xs bs → WordsAt cells at (rows row xs bs)

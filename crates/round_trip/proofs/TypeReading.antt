@@ -13,14 +13,14 @@ use Rattle.text.specs.Strings.{cstringAt}
 use Rattle.reflection.specs.Limits.{chunkLimit}
 use Rattle.reflection.specs.Strides.{typeStride, memberStride}
 use Rattle.reflection.specs.Reflection.{TypeNumbers, TypeDesc, typeDesc, Members, noMember, member, memberCount, mapType, mapMembers}
-use Rattle.reflection.specs.Nodes.{Fits, FitsAll}
+use Rattle.reflection.proofs.Levels.{Fits, FitsAll}
 use Rattle.reflection.specs.Texts.{inChunk}
 use Rattle.reflection.specs.Contents.{Bytes}
 use Rattle.reading.specs.Step.{room}
 use Rattle.reading.specs.Read.{wordIf, onPath, readMembers, cstringOrEmpty, typeNameAt, numbersFrom, readType}
 use Rattle.writing.specs.Step.{Cell}
-use Rattle.writing.specs.Records.{halves, typeWords, wordsIf}
-use Rattle.round_trip.specs.RoundTrip.{Words}
+use Rattle.writing.specs.Records.{halves, typeWordsInChunk, wordsIf}
+use Rattle.round_trip.specs.RoundTrip.{EachIsWord}
 use Rattle.round_trip.proofs.Lists.{All, all-weaken}
 use Rattle.round_trip.proofs.Holds.{bytesOf, WordsAt, Longer, inside-bytes, words-first, row-word, words-fit, words-split, longer-word}
 use Rattle.round_trip.proofs.Rooms.{Takes, Reads, then-takes, free-then, then-free, return-takes, returns, check-takes, text-takes, type-takes, below-not-on-path}
@@ -41,14 +41,14 @@ halves-small : (a b : ℕ) → a < 65536 → b < 65536 → halves a b < 42949672
 unfolding halves
 halves-small a b h k = omega arith
 
-pub length-typeWords : (sm5 : Bool) (k : TypeNumbers) (count members name : ℕ) → 4 * length (typeWords sm5 k count members name) ≡ typeStride sm5
-unfolding typeWords
+pub length-typeWords : (sm5 : Bool) (k : TypeNumbers) (count members name : ℕ) → 4 * length (typeWordsInChunk sm5 k count members name) ≡ typeStride sm5
+unfolding typeWordsInChunk
 length-typeWords false k count members name = refl
 length-typeWords true k count members name = refl
 
 -- What the words of a descriptor at o are read as.
 module _ (cells : List (Cell Bytes Bytes)) (sm5 : Bool) (k : TypeNumbers) (count members name o : ℕ) (fine : ReadableNumbers sm5 k) (few : count < 65536)
-    (small-members : members < 4294967296) (small-name : Longer sm5 name) (stands : WordsAt cells o (typeWords sm5 k count members name)) where
+    (small-members : members < 4294967296) (small-name : Longer sm5 name) (stands : WordsAt cells o (typeWordsInChunk sm5 k count members name)) where
   abbrev first : List ℕ
   first = halves (k .class) (k .var-type) ∷ halves (k .rows) (k .columns) ∷ halves (k .elements) count ∷ members ∷ []
 
@@ -56,11 +56,11 @@ module _ (cells : List (Cell Bytes Bytes)) (sm5 : Bool) (k : TypeNumbers) (count
   longer = k .extra0 ∷ k .extra1 ∷ k .extra2 ∷ k .extra3 ∷ name ∷ []
 
   row : WordsAt cells o (first ++ wordsIf sm5 longer)
-  unfolding typeWords
+  unfolding typeWordsInChunk
   row = stands
 
   word : (j : ℕ) → j < 4 → wordAt (bytesOf cells) (o + 4 * j) ≡ getD first j 0
-  unfolding Words
+  unfolding EachIsWord
   word j lt =
       row-word cells o first j (halves-small _ _ (fine .class) (fine .var-type), (halves-small _ _ (fine .rows) (fine .columns), (halves-small _ _ (fine .elements) few, (small-members, tt)))) lt
       (words-split cells o first (wordsIf sm5 longer) row .0)
@@ -99,7 +99,7 @@ module _ (cells : List (Cell Bytes Bytes)) (sm5 : Bool) (k : TypeNumbers) (count
   members-read = word 3 (omega arith)
 
   descriptor-fits : o + typeStride sm5 ≤ length cells
-  descriptor-fits = omega (arith, words-fit cells o (typeWords sm5 k count members name) stands, length-typeWords sm5 k count members name)
+  descriptor-fits = omega (arith, words-fit cells o (typeWordsInChunk sm5 k count members name) stands, length-typeWords sm5 k count members name)
 
 name-small : (cells : List (Cell Bytes Bytes)) (sm5 : Bool) (o : ℕ) (n : Bytes) → length cells ≤ chunkLimit → NamedIf sm5 n → NameOrEmpty cells o n → Longer sm5 o
 name-small cells false o n short named h = h .empty named
@@ -186,7 +186,7 @@ module _ (cells : List (Cell Bytes Bytes)) (sm5 : Bool) (short : length cells �
 
   -- The descriptor at o, its member records at `members`, its name at `name`.
   pub type-at : (o members name : ℕ) (k : TypeNumbers) (n : Bytes) (ms : Members Bytes) (ws : List ℕ) → ReadableType sm5 (typeDesc k n ms) → members ≤ o → MembersAt cells sm5 ms ws o
-      → NameOrEmpty cells name n → WordsAt cells members ws → o < length cells → WordsAt cells o (typeWords sm5 k (memberCount ms) members name) → TypeAt cells sm5 o (typeDesc k n ms)
+      → NameOrEmpty cells name n → WordsAt cells members ws → o < length cells → WordsAt cells o (typeWordsInChunk sm5 k (memberCount ms) members name) → TypeAt cells sm5 o (typeDesc k n ms)
   unfolding readType Fits mapType typeSize ReadableType
   type-at o members name k n ms ws fine le all named records below-end h = record { reads = reads; below-end = below-end }
     where

@@ -16,7 +16,7 @@ use Rattle.reflection.specs.Reflection.{TypeNumbers, TypeDesc, typeDesc, Member
 use Rattle.reflection.specs.Contents.{Bytes}
 use Rattle.reading.specs.Read.{typeStride}
 use Rattle.writing.specs.Step.{Cell, Pools, _>>=_, append, pad, wordCells, find, unlessEmpty, addType}
-use Rattle.writing.specs.Records.{typeWords}
+use Rattle.writing.specs.Records.{typeWordsInChunk}
 use Rattle.writing.specs.Same.{numbersOf, sameType, sameMembers}
 use Rattle.writing.specs.Layout.{writeType, placeType, placeMembers}
 use Rattle.writing.specs.Canonical.{bytesOracle}
@@ -93,11 +93,11 @@ module _ (cells : List (Cell Bytes Bytes)) (short : length cells ≤ chunkLimit)
       weaken-leaves (λ members at₂ put. (put .stands, omega (arith, put .began, put .ends))) (append-leaves at₁ (wordCells ws)))
 
   fresh-type : (k : TypeNumbers) (n : Bytes) (ms : Members Bytes) (ws : List ℕ) (at₂ members at₃ at₄ name o at₅ : ℕ) → ReadableType sm5 (typeDesc k n ms) → NameOrEmpty cells name n
-      → MembersAt cells sm5 ms ws at₂ → at₂ ≤ at₃ → RecordsAt ws members at₃ → at₃ ≤ at₄ → Appended cells at₄ (wordCells (typeWords sm5 k (memberCount ms) members name)) o at₅
+      → MembersAt cells sm5 ms ws at₂ → at₂ ≤ at₃ → RecordsAt ws members at₃ → at₃ ≤ at₄ → Appended cells at₄ (wordCells (typeWordsInChunk sm5 k (memberCount ms) members name)) o at₅
       → TypeBelow (typeDesc k n ms) o at₅
   unfolding WordsAt
   fresh-type k n ms ws at₂ members at₃ at₄ name o at₅ fine named all le₃ records le₄ put =
-      let row = typeWords sm5 k (memberCount ms) members name in
+      let row = typeWordsInChunk sm5 k (memberCount ms) members name in
       let stands : WordsAt cells o row = put .stands in
       let fits : o + 4 * length row ≤ length cells = words-fit cells o row stands in
       let long : 4 ≤ 4 * length row = long-enough sm5 (4 * length row) (length-typeWords sm5 k (memberCount ms) members name) in (
@@ -122,7 +122,7 @@ module _ (cells : List (Cell Bytes Bytes)) (short : length cells ≤ chunkLimit)
         bind-leaves (records-leave (memberCount ms) ws at₂ (λ e. no-members cells sm5 ms ws at₂ e all)) λ members at₃ le₃ records.
         bind-leaves (pad-leaves at₃) λ _ at₄ le₄ _.
         weaken-leaves (λ o at₅ put. fresh-type k n ms ws at₂ members at₃ at₄ name o at₅ fine named all le₃ records le₄ put)
-        (append-leaves at₄ (wordCells (typeWords sm5 k (memberCount ms) members name)))) λ o at₅ le₅ there.
+        (append-leaves at₄ (wordCells (typeWordsInChunk sm5 k (memberCount ms) members name)))) λ o at₅ le₅ there.
         rememberIf-leaves share (addType (typeDesc k n ms)) o
         (λ ps inv. record { cursor = inv .cursor; outer-names = inv .outer-names; inner-names = inv .inner-names; types = (there, inv .types); member-types = inv .member-types; defaults = inv .defaults })
         there)

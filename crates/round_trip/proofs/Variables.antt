@@ -17,12 +17,12 @@ use Rattle.reflection.specs.Nodes.{typeLevels}
 use Rattle.reflection.specs.Texts.{inChunk}
 use Rattle.reflection.specs.Contents.{Bytes}
 use Rattle.reading.specs.Step.{Room, room}
-use Rattle.reading.specs.Read.{wordIf, readType, defaultAt, variableFrom, readVariable}
+use Rattle.reading.specs.Read.{wordIf, readType, defaultAt, variableFromChunk, readVariable}
 use Rattle.writing.specs.Step.{Cell}
-use Rattle.writing.specs.Records.{VariableOffsets, variableWords, wordsIf}
+use Rattle.writing.specs.Records.{VariableOffsets, variableWordsInChunk, wordsIf}
 use Rattle.writing.specs.Layout.{placeVariable, placeVariables}
 use Rattle.writing.specs.Canonical.{bytesOracle}
-use Rattle.round_trip.specs.RoundTrip.{Words}
+use Rattle.round_trip.specs.RoundTrip.{EachIsWord}
 use Rattle.round_trip.proofs.Lists.{All, Zip}
 use Rattle.round_trip.proofs.Holds.{bytesOf, WordsAt, inside-bytes, row-word, words-fit, words-split, longer-word}
 use Rattle.round_trip.proofs.Rooms.{plus, Takes, then-takes, free-then, then-free, returns, check-takes, text-takes, variable-takes}
@@ -32,8 +32,8 @@ use Rattle.round_trip.proofs.Names.{placeInnerName-leaves, placeDefault
 use Rattle.round_trip.proofs.Types.{placeType-leaves}
 use Rattle.round_trip.proofs.Conditions.{ReadableVariable}
 
-pub length-variableWords : (sm5 : Bool) (v : CBufferVariable Bytes Bytes) (o : VariableOffsets) → 4 * length (variableWords sm5 v o) ≡ variableStride sm5
-unfolding variableWords
+pub length-variableWords : (sm5 : Bool) (v : CBufferVariable Bytes Bytes) (o : VariableOffsets) → 4 * length (variableWordsInChunk sm5 v o) ≡ variableStride sm5
+unfolding variableWordsInChunk
 length-variableWords false v o = refl
 length-variableWords true v o = refl
 
@@ -53,9 +53,9 @@ pub record VariableRead (cells : List (Cell Bytes Bytes)) (v : CBufferVariable B
   pub default : p .default-value ≡ inChunk (o .default) (length (v .default-value))
 
 module _ (cells : List (Cell Bytes Bytes)) (short : length cells ≤ chunkLimit) (sm5 : Bool) where
-  pub variable-read : (v : CBufferVariable Bytes Bytes) (o : VariableOffsets) (at : ℕ) → VariableAt cells sm5 v o → WordsAt cells at (variableWords sm5 v o)
+  pub variable-read : (v : CBufferVariable Bytes Bytes) (o : VariableOffsets) (at : ℕ) → VariableAt cells sm5 v o → WordsAt cells at (variableWordsInChunk sm5 v o)
       → (p : CBufferVariable Text Text) × Takes (readVariable (bytesOf cells) sm5 at) (variableCost v) p × VariableRead cells v o p
-  unfolding readVariable mapVariable variableWords variableFrom Words
+  unfolding readVariable mapVariable variableWordsInChunk variableFromChunk EachIsWord
   variable-read v o at there h =
       let type = there .type .reads typeLevels [] (there .fine .deep) tt in
       let name : Text = inChunk (o .name) (length (v .name)) in
@@ -74,7 +74,7 @@ module _ (cells : List (Cell Bytes Bytes)) (short : length cells ≤ chunkLimit)
       } in (
         p,
         then-takes _ (room 0 0 1 0) (room 0 0 0 (typeSize (v .var-type))) variable-takes
-            (free-then _ _ (check-takes _ _ (inside-bytes cells at (variableStride sm5) (omega (arith, words-fit cells at (variableWords sm5 v o) h, length-variableWords sm5 v o))))
+            (free-then _ _ (check-takes _ _ (inside-bytes cells at (variableStride sm5) (omega (arith, words-fit cells at (variableWordsInChunk sm5 v o) h, length-variableWords sm5 v o))))
             (free-then _ _ (text-takes _ _ (o .default) (length (v .default-value))
             ((λ i. defaultAt (bytesOf cells) (word 5 (omega arith) i) (word 2 (omega arith) i)) ∙ there .default .found (v .size) (there .fine .default)))
             (free-then _ _ (text-takes _ _ (o .name) (length (v .name)) (ap (cstringAt (bytesOf cells)) word-0 ∙ there .name .found))

@@ -1,3 +1,4 @@
+-- Vocabulary of proofs: of the functions themselves the round trip is said in crates/guarantees/specs/RoundTrip.antt.
 -- ROUND TRIP (document 01, demand 2: what is written reads back with every field restored and writes the same bytes again). `Restored r` says of a
 -- reflection's canonical form: it reads; what is read has every number, name and default of r; each text lies where the layout put that text's cells; each
 -- default lies where the layout's result says; and what was read is written as the same bytes. proofs/RoundTrip.antt proves it of all that is readable.
@@ -35,23 +36,23 @@ bindingNumbers b =
     b .input-type ∷ b .return-type ∷ b .dimension ∷ b .num-samples ∷ b .bind-point ∷ b .bind-count ∷ b .flags ∷ b .space ∷ b .id ∷ []
 
 -- All of them are below 2^32, as in tables of words.
-unfoldable pub Words : List ℕ → Type 0
-Words [] = Unit {0}
-Words (n ∷ ns) = (n < 4294967296) × Words ns
+unfoldable pub EachIsWord : List ℕ → Type 0
+EachIsWord [] = Unit {0}
+EachIsWord (n ∷ ns) = (n < 4294967296) × EachIsWord ns
 
 unfoldable pub AllWords : {A : Type 0} → (A → List ℕ) → List A → Type 0
 AllWords numbers [] = Unit {0}
-AllWords numbers (x ∷ xs) = Words (numbers x) × AllWords numbers xs
+AllWords numbers (x ∷ xs) = EachIsWord (numbers x) × AllWords numbers xs
 
 unfoldable pub bufferNumbers : {N D : Type 0} → CBufferDef N D → List ℕ
 bufferNumbers b = b .size ∷ b .flags ∷ b .cb-type ∷ []
 
 unfoldable pub BuffersWords : {N D : Type 0} → List (CBufferDef N D) → Type 0
 BuffersWords [] = Unit {0}
-BuffersWords (b ∷ bs) = Words (bufferNumbers b) × (AllWords variableNumbers (b .variables) × BuffersWords bs)
+BuffersWords (b ∷ bs) = EachIsWord (bufferNumbers b) × (AllWords variableNumbers (b .variables) × BuffersWords bs)
 
 pub record NumbersAreWords {N D : Type 0} (r : ResourceDef N D) : Type 0 where
-  pub header : Words (r .target-version ∷ r .compile-flags ∷ identifierOf (r .rd11) ∷ strideOf (r .rd11) ∷ slotsOf (r .rd11) ∷ [])
+  pub header : EachIsWord (r .target-version ∷ r .compile-flags ∷ identifierOf (r .rd11) ∷ strideOf (r .rd11) ∷ slotsOf (r .rd11) ∷ [])
   pub bindings : AllWords bindingNumbers (r .bindings)
   pub buffers : BuffersWords (r .constant-buffers)
 

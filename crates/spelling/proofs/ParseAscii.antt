@@ -20,7 +20,7 @@ use Rattle.reflection.specs.Refusals.{noSpelling}
 use Rattle.spelling.specs.declared.TypeSpelling.{TypeSpelling}
 use Rattle.spelling.specs.declared.SpelledType.the-variants.{Refused}
 use Rattle.spelling.specs.Names.{baseNames, numberIn, baseNumber}
-use Rattle.spelling.specs.Grammar.{isDigit, digitsValue, digitsNumber, withoutPlus, asU16, number, afterByte, splitOnce, withoutLast, beforeDigit, fromDigit, Shape, shapeOf, shape, core, typeFrom, parseType, spelledType}
+use Rattle.spelling.specs.Grammar.{isDigit, digitsValue, digitsNumber, withoutPlus, asU16, number, afterByte, splitOnce, withoutLast, beforeDigit, fromDigit, Shape, shapeOf, shape, core, typeFromText, parseType, spelledType}
 
 -- Every byte is below 0x80.
 unfoldable ascii : List ℕ → Bool
@@ -168,7 +168,7 @@ core-ascii text elements e =
     let (found, is-shape, done) = first-gives (shape (fromDigit text)) _ more in
     ap ascii (sym (digit-joined text)) ∙ ascii-append (beforeDigit text) (fromDigit text) (base-ascii (beforeDigit text) is-base) (shape-ascii (fromDigit text) is-shape)
 
-type-ascii : (text : List ℕ) {s : TypeSpelling} (o : Option (List ℕ × List ℕ)) → splitOnce 91 text ≡ o → typeFrom text o ≡ some s → ascii text ≡ true
+type-ascii : (text : List ℕ) {s : TypeSpelling} (o : Option (List ℕ × List ℕ)) → splitOnce 91 text ≡ o → typeFromText text o ≡ some s → ascii text ≡ true
 unfolding ascii
 type-ascii text none is e = core-ascii text 0 e
 type-ascii text (some p) is e =

@@ -11,7 +11,8 @@ use lib.ListN.{length, getD, drop, drop-of-length-le}
 use lib.Seq.{drop-cons}
 use Rattle.reflection.specs.Limits.{u16Limit}
 use Rattle.reflection.specs.Nodes.{_>>=_}
-use Rattle.spelling.specs.Grammar.{isDigit, digitsValue, asU16, number, digitsAsU16}
+use Rattle.spelling.specs.Grammar.{isDigit, digitsValue, asU16, number}
+use Rattle.spelling.specs.GrammarParts.{digitsAsU16}
 
 -- a value from 65,536 on only grows, digit by digit
 digits-too-large : (digits : List ℕ) (n : ℕ) → u16Limit ≤ n → (digitsValue digits n >>= asU16) ≡ none

@@ -11,7 +11,8 @@ use lib.Dec.{eqb, leb}
 use lib.ListN.{length, getD, take, drop, length-drop, drop-of-length-le}
 use lib.Seq.{drop-cons, take-all}
 use Rattle.reflection.specs.Nodes.{_>>=_}
-use Rattle.spelling.specs.Grammar.{isDigit, afterByte, splitOnce, withoutLast, beforeDigit, fromDigit, firstBetween}
+use Rattle.spelling.specs.Grammar.{isDigit, afterByte, splitOnce, withoutLast, beforeDigit, fromDigit}
+use Rattle.spelling.specs.GrammarParts.{firstBetween}
 
 -- the part of a text from index a up to its end
 pub part-from : (a : ℕ) (text : List ℕ) → take (length text - a) (drop a text) ≡ drop a text

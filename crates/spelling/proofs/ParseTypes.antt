@@ -12,7 +12,8 @@ use Rattle.reflection.specs.Nodes.{_>>=_}
 use Rattle.spelling.specs.declared.parse.Number.{Number}
 use Rattle.spelling.specs.declared.parse.Number.the-variants.{Value, NotUnderstood}
 use Rattle.spelling.specs.Names.{baseNumber}
-use Rattle.spelling.specs.Grammar.{number, splitOnce, withoutLast, Shape, shapeOf, shape, core, typeFrom, parseType, spelledType, firstBetween, elementsOf, withShape, withNumbers, numberRead}
+use Rattle.spelling.specs.Grammar.{number, splitOnce, withoutLast, Shape, shapeOf, shape, core, typeFromText, parseType, spelledType}
+use Rattle.spelling.specs.GrammarParts.{firstBetween, elementsOf, withShape, withNumbers, numberRead}
 use Rattle.spelling.proofs.ParseParts.{before-digit, from-digit, split-once-none, split-once-some, without-last}
 
 -- what an answer says of the number that was looked for
@@ -106,12 +107,12 @@ then-then none f g = refl
 -- The whole text: without '['; or with its first '[' at index i.
 pub parse-plain : (text : List ℕ) → firstBetween 91 91 text ≡ length text → parseType text ≡ core text 0
 unfolding parseType
-parse-plain text e = ap (typeFrom text) (split-once-none 91 text e)
+parse-plain text e = ap (typeFromText text) (split-once-none 91 text e)
 
 module _ (text : List ℕ) (i : ℕ) (first-bracket : i ≡ firstBetween 91 91 text) (inside : i < length text) where
   pub parse-array : {elements : Option ℕ} → elementsOf (drop (i + 1) text) ≡ elements → parseType text ≡ (elements >>= core (take i text))
   unfolding parseType elementsOf
   parse-array e =
-      ap (typeFrom text) (split-once-some 91 text i first-bracket inside)
+      ap (typeFromText text) (split-once-some 91 text i first-bracket inside)
       ∙ then-then (withoutLast 93 (drop (suc i) text)) number (core (take i text))
       ∙ ap (λ (o : Option ℕ). o >>= core (take i text)) (ap (λ (k : ℕ). elementsOf (drop k text)) (sym (add-one i)) ∙ e)

@@ -1,3 +1,4 @@
 pub mod Names
 pub mod Spelling
 pub mod Grammar
+pub mod GrammarParts

@@ -6,7 +6,7 @@ ghost use Rattle.codes.specs.Variable.{classRow};
 ghost use Rattle.reflection.specs.Outcome.{because};
 ghost use Rattle.reflection.specs.Refusals.{noSpelling};
 ghost use Rattle.spelling.specs.Grammar.{number, shape, core, parseType, spelledType};
-ghost use Rattle.spelling.specs.Grammar.{firstBetween, digitsAsU16, elementsOf, withShape, withNumbers, numberRead, baseRead};
+ghost use Rattle.spelling.specs.GrammarParts.{firstBetween, digitsAsU16, elementsOf, withShape, withNumbers, numberRead, baseRead};
 ghost use Rattle.spelling.specs.Names.{baseNumber};
 use crate::SpelledType;
 use crate::TypeSpelling;

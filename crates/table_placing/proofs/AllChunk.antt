@@ -8,17 +8,18 @@ use Prim.Native.Nat.{ℕ, _+_, _*_, _≤_}
 use native.Mathlib.Nat.{zero-add, mul-one, mul-le-mul-left}
 use native.Mathlib.Omega.{arith}
 use lib.ListN.{length, getD, replicate, length-map}
-use Rattle.words.specs.Splice.{Put, put-length}
+use Rattle.words.specs.Splice.{Put}
+use Rattle.words.proofs.Splice.{put-length}
 use Rattle.reflection.specs.declared.Text.{Text}
 use Rattle.reflection.specs.declared.ResourceDef.{ResourceDef as Header}
 use Rattle.reflection.specs.Reflection.{ResourceBinding, ResourceDef, Rd11, isSm5, isWide}
 use Rattle.reflection.specs.Texts.{textBytes}
 use Rattle.reflection.specs.Contents.{contents}
 use Rattle.reflection.specs.Records.{bindingWidth, bindingAt}
-use Rattle.reflection.specs.Decode.{recordsFrom, bindingFrom, rd11From}
+use Rattle.reflection.specs.Decode.{recordsFrom, bindingFromTable, rd11FromHeader}
 use Rattle.reflection.specs.Limits.{bindingRoom}
 use Rattle.writing.specs.Step.{pools, paddingAt}
-use Rattle.writing.specs.Records.{Section, rows, bindingWords, bindingSize, rd11Words, headerWords, headerSize}
+use Rattle.writing.specs.Records.{Section, rows, bindingWordsInChunk, bindingSize, rd11Words, headerWordsInChunk, headerWordCount}
 use Rattle.writing.specs.Layout.{placeOuterNames, placeInnerName, layout}
 use Rattle.writing.specs.Canonical.{canonical}
 use Rattle.writing.proofs.Natural.{canonical-through}
@@ -29,7 +30,7 @@ use Rattle.placing.specs.Bytes.{joinedBytes}
 use Rattle.placing.specs.Scratch.{innerStart, defaultsStart, bindingsStart, innerPool}
 use Rattle.placing.specs.InScratch.{TextPlaced}
 use Rattle.placing.proofs.Runs.{ran-like, ran-step}
-use Rattle.table_placing.specs.Held.{bufferHeld, reflectionHeld, Sized}
+use Rattle.table_placing.specs.TableReflection.{bufferInTable, reflectionInTables, Sized}
 use Rattle.table_placing.specs.Offsets.{bufferName, bufferSection, bindingName, rowsFrom, bindingRow, headerRow}
 use Rattle.table_placing.specs.Placed.{poolsAt, nameAt, storedAt, NamesRoom, NamesPlaced}
 use Rattle.table_placing.specs.Sections.{Fit, Unplaced, BuffersPlaced}
@@ -39,24 +40,24 @@ use Rattle.table_placing.proofs.Steps.{ran-chunk}
 use Rattle.table_placing.proofs.Pools.{inner-same, defaults-same, ran-from, text-placed-at}
 
 -- The bindings' names, and the words of their records.
-binding-names : (bindings : List ℕ) (n : ℕ) → recordsFrom (nameAt bindingWidth bindings) 0 n ≡ map (λ b. b .name) (map bindingFrom (recordsFrom (bindingAt bindings) 0 n))
-unfolding nameAt bindingFrom bindingAt
+binding-names : (bindings : List ℕ) (n : ℕ) → recordsFrom (nameAt bindingWidth bindings) 0 n ≡ map (λ b. b .name) (map bindingFromTable (recordsFrom (bindingAt bindings) 0 n))
+unfolding nameAt bindingFromTable bindingAt
 binding-names bindings n =
-    sym (ap (map (λ (b : ResourceBinding Text). b .name)) (map-records bindingFrom (bindingAt bindings) 0 n) ∙ map-records (λ (b : ResourceBinding Text). b .name) (λ i. bindingFrom (bindingAt bindings i)) 0 n)
+    sym (ap (map (λ (b : ResourceBinding Text). b .name)) (map-records bindingFromTable (bindingAt bindings) 0 n) ∙ map-records (λ (b : ResourceBinding Text). b .name) (λ i. bindingFromTable (bindingAt bindings i)) 0 n)
 
 binding-rows : (wide : Bool) (bindings s : List ℕ) (n : ℕ)
-    → rows (bindingWords wide) (map bindingFrom (recordsFrom (bindingAt bindings) 0 n)) (recordsFrom (bindingName s) 0 n) ≡ rowsFrom (bindingRow wide bindings s) 0 n
+    → rows (bindingWordsInChunk wide) (map bindingFromTable (recordsFrom (bindingAt bindings) 0 n)) (recordsFrom (bindingName s) 0 n) ≡ rowsFrom (bindingRow wide bindings s) 0 n
 unfolding bindingRow
 binding-rows wide bindings s n =
-    ap (λ (l : List (ResourceBinding Text)). rows (bindingWords wide) l (recordsFrom (bindingName s) 0 n)) (map-records bindingFrom (bindingAt bindings) 0 n)
-    ∙ rows-records (bindingWords wide) (λ i. bindingFrom (bindingAt bindings i)) (bindingName s) 0 n
+    ap (λ (l : List (ResourceBinding Text)). rows (bindingWordsInChunk wide) l (recordsFrom (bindingName s) 0 n)) (map-records bindingFromTable (bindingAt bindings) 0 n)
+    ∙ rows-records (bindingWordsInChunk wide) (λ i. bindingFromTable (bindingAt bindings i)) (bindingName s) 0 n
 
 binding-stored : (s : List ℕ) (n : ℕ) → recordsFrom (storedAt bindingsStart 1 s) 0 n ≡ recordsFrom (bindingName s) 0 n
 unfolding storedAt bindingName
 binding-stored s n = same-records (storedAt bindingsStart 1 s) (bindingName s) 0 n (λ i low high. ap (λ (x : ℕ). getD s (bindingsStart + x) 0) (mul-one i))
 
-length-bindings : (bindings : List ℕ) (n : ℕ) → length (map bindingFrom (recordsFrom (bindingAt bindings) 0 n)) ≡ n
-length-bindings bindings n = length-map (recordsFrom (bindingAt bindings) 0 n) bindingFrom ∙ length-records (bindingAt bindings) 0 n
+length-bindings : (bindings : List ℕ) (n : ℕ) → length (map bindingFromTable (recordsFrom (bindingAt bindings) 0 n)) ≡ n
+length-bindings bindings n = length-map (recordsFrom (bindingAt bindings) 0 n) bindingFromTable ∙ length-records (bindingAt bindings) 0 n
 
 -- There is room at each call.
 pub bindings-behind : (h : Header) (buffers types : List ℕ) {bsize : ℕ} → Sized h buffers types → bsize ≤ bindingSize true → h .«binding_count» * bsize ≤ bindingRoom * bindingSize true
@@ -65,7 +66,7 @@ bindings-behind h buffers types sized few-binding = omega (arith, mul-le-mul-lef
 pub buffers-fit : (h : Header) (buffers types : List ℕ) → Sized h buffers types → Fit buffers types (h .«buffer_count»)
 buffers-fit h buffers types sized = record { few-variables = sized .few-variables; few-nodes = sized .few-nodes }
 
-module _ (h : Header) (buffers types : List ℕ) {s s₀ : List ℕ} {hsize bsize : ℕ} (sized : Sized h buffers types) (begun : PoolsBegun s s₀) (few-header : hsize ≤ headerSize true) (few-binding : bsize ≤ bindingSize true) where
+module _ (h : Header) (buffers types : List ℕ) {s s₀ : List ℕ} {hsize bsize : ℕ} (sized : Sized h buffers types) (begun : PoolsBegun s s₀) (few-header : hsize ≤ headerWordCount true) (few-binding : bsize ≤ bindingSize true) where
   pub binding-names-room : NamesRoom (h .«binding_count») bindingsStart 1 (4 * hsize + 4 * (h .«binding_count» * bsize)) s₀
   binding-names-room = record {
     stored = omega arith;
@@ -84,14 +85,14 @@ module _ (h : Header) (buffers types : List ℕ) {s s₀ : List ℕ} {hsize bsiz
       cursor = omega (arith, named .near, few-header, bindings-behind h buffers types sized few-binding, sized .few-bindings);
     }
 
-    module _ (variables : List ℕ) {sm5 wide : Bool} (is-sm5 : sm5 ≡ isSm5 (rd11From h)) (is-wide : wide ≡ isWide (rd11From h)) (header-sized : hsize ≡ headerSize sm5) (binding-sized : bsize ≡ bindingSize wide)
+    module _ (variables : List ℕ) {sm5 wide : Bool} (is-sm5 : sm5 ≡ isSm5 (rd11FromHeader h)) (is-wide : wide ≡ isWide (rd11FromHeader h)) (header-sized : hsize ≡ headerWordCount sm5) (binding-sized : bsize ≡ bindingSize wide)
         {s₂ s₃ out₂ out₃ out₄ out₅ out₆ : List ℕ} {e₁ e₂ end : ℕ} {b c : Spot}
         (bound : Put out₁ (4 * hsize) (joinedBytes (rowsFrom (bindingRow wide bindings s₁) 0 (h .«binding_count»))) out₂ e₁)
         (placed : BuffersPlaced chunk edits buffers variables types sm5 (h .«buffer_count») at₁ s₁ s₂ out₂ out₃ b)
         (created : TextPlaced chunk edits (placeInnerName (textOracle chunk edits) (h .creator)) (b .at) innerPool innerStart defaultsStart s₂ s₃ out₃ out₄ c)
         (padded : Put out₄ (c .at) (replicate (paddingAt (c .at)) 0xab) out₅ end) (headed : Put out₅ 0 (joinedBytes (headerRow h (b .offset) (c .offset))) out₆ e₂) where
       abbrev r : ResourceDef Text Text
-      r = reflectionHeld h bindings buffers variables types
+      r = reflectionInTables h bindings buffers variables types
 
       abbrev n : ℕ
       n = h .«binding_count»
@@ -100,40 +101,40 @@ module _ (h : Header) (buffers types : List ℕ) {s s₀ : List ℕ} {hsize bsiz
       sections = recordsFrom (λ i. (bufferName s₂ i, bufferSection buffers s₂ i)) 0 (h .«buffer_count»)
 
       abbrev x : Rd11
-      x = rd11From h
+      x = rd11FromHeader h
 
-      header-at : 4 * hsize ≡ 0 + 4 * headerSize (isSm5 x)
-      header-at = ap (λ (k : ℕ). 4 * k) (header-sized ∙ ap headerSize is-sm5) ∙ sym (zero-add (4 * headerSize (isSm5 x)))
+      header-at : 4 * hsize ≡ 0 + 4 * headerWordCount (isSm5 x)
+      header-at = ap (λ (k : ℕ). 4 * k) (header-sized ∙ ap headerWordCount is-sm5) ∙ sym (zero-add (4 * headerWordCount (isSm5 x)))
 
-      bindings-at : 4 * hsize + 4 * (n * bsize) ≡ 0 + 4 * headerSize (isSm5 x) + 4 * (length (map bindingFrom (recordsFrom (bindingAt bindings) 0 n)) * bindingSize (isWide x))
+      bindings-at : 4 * hsize + 4 * (n * bsize) ≡ 0 + 4 * headerWordCount (isSm5 x) + 4 * (length (map bindingFromTable (recordsFrom (bindingAt bindings) 0 n)) * bindingSize (isWide x))
       bindings-at =
           let l = sym (length-bindings bindings n) in
           let z = binding-sized ∙ ap bindingSize is-wide in
           λ i. header-at i + 4 * (l i * z i)
 
-      named-ran : Ran chunk edits (placeOuterNames (textOracle chunk edits) (map (λ b. b .name) (map bindingFrom (recordsFrom (bindingAt bindings) 0 n))))
-          (0 + 4 * headerSize (isSm5 x) + 4 * (length (map bindingFrom (recordsFrom (bindingAt bindings) 0 n)) * bindingSize (isWide x))) (pools [] [] [] [] []) out out₁ (recordsFrom (bindingName s₁) 0 n) at₁ (poolsAt types s₁ 0 0)
+      named-ran : Ran chunk edits (placeOuterNames (textOracle chunk edits) (map (λ b. b .name) (map bindingFromTable (recordsFrom (bindingAt bindings) 0 n))))
+          (0 + 4 * headerWordCount (isSm5 x) + 4 * (length (map bindingFromTable (recordsFrom (bindingAt bindings) 0 n)) * bindingSize (isWide x))) (pools [] [] [] [] []) out out₁ (recordsFrom (bindingName s₁) 0 n) at₁ (poolsAt types s₁ 0 0)
       named-ran =
           ran-from bindings-at (ran-step chunk edits (ap (placeOuterNames (textOracle chunk edits)) (binding-names bindings n))
           (ran-like chunk edits (begun .none types) refl (binding-stored s₁ n) (named .ran types)))
 
-      all-rows : rows (bindingWords (isWide x)) (map bindingFrom (recordsFrom (bindingAt bindings) 0 n)) (recordsFrom (bindingName s₁) 0 n) ≡ rowsFrom (bindingRow (isWide x) bindings s₁) 0 n
+      all-rows : rows (bindingWordsInChunk (isWide x)) (map bindingFromTable (recordsFrom (bindingAt bindings) 0 n)) (recordsFrom (bindingName s₁) 0 n) ≡ rowsFrom (bindingRow (isWide x) bindings s₁) 0 n
       all-rows = binding-rows (isWide x) bindings s₁ n
 
-      written : Put out₁ (0 + 4 * headerSize (isSm5 x)) (joinedBytes (rows (bindingWords (isWide x)) (map bindingFrom (recordsFrom (bindingAt bindings) 0 n)) (recordsFrom (bindingName s₁) 0 n))) out₂ e₁
+      written : Put out₁ (0 + 4 * headerWordCount (isSm5 x)) (joinedBytes (rows (bindingWordsInChunk (isWide x)) (map bindingFromTable (recordsFrom (bindingAt bindings) 0 n)) (recordsFrom (bindingName s₁) 0 n))) out₂ e₁
       written =
           let words = ap (λ (w : Bool). rowsFrom (bindingRow w bindings s₁) 0 n) is-wide ∙ sym all-rows in
           subst (λ (p : ℕ × List ℕ). Put out₁ (p .0) (joinedBytes (p .1)) out₂ e₁) (λ i. (header-at i, words i)) bound
 
-      header-is : headerRow h (b .offset) (c .offset) ≡ headerWords r (record { buffers = b .offset; sections = sections; creator = c .offset })
-      unfolding headerRow headerWords reflectionHeld
+      header-is : headerRow h (b .offset) (c .offset) ≡ headerWordsInChunk r (record { buffers = b .offset; sections = sections; creator = c .offset })
+      unfolding headerRow headerWordsInChunk reflectionInTables
       header-is =
           let l = sym (length-bindings bindings n) in
-          let m = sym (length-records (bufferHeld buffers variables types) 0 (h .«buffer_count»)) in
-          λ i. m i ∷ b .offset ∷ l i ∷ 4 * headerSize (isSm5 x) ∷ h .«target_version» ∷ h .«compile_flags» ∷ c .offset ∷ rd11Words x
+          let m = sym (length-records (bufferInTable buffers variables types) 0 (h .«buffer_count»)) in
+          λ i. m i ∷ b .offset ∷ l i ∷ 4 * headerWordCount (isSm5 x) ∷ h .«target_version» ∷ h .«compile_flags» ∷ c .offset ∷ rd11Words x
 
       laid-out : Put out 0 (cellBytes chunk edits (layout (textOracle chunk edits) r .cells)) out₆ end ⊎ TooLong (cellBytes chunk edits (layout (textOracle chunk edits) r .cells)) out out₆ end
-      unfolding reflectionHeld
+      unfolding reflectionInTables
       laid-out =
           ran-chunk chunk edits r named-ran written
           (subst (λ v. BuffersPlaced chunk edits buffers variables types v (h .«buffer_count») at₁ s₁ s₂ out₂ out₃ b) is-sm5 placed .ran) (text-placed-at types (placed .roots) (placed .n) created (omega arith)) padded

@@ -17,11 +17,11 @@ use Rattle.reflection.specs.declared.CBufferDef.{CBufferDef as BufferRecord}
 use Rattle.reflection.specs.declared.CBufferVariable.{CBufferVariable as VariableRecord}
 use Rattle.reflection.specs.declared.TypeDesc.{TypeDesc as TypeRecord}
 use Rattle.reflection.specs.Reflection.{CBufferVariable, CBufferDef, ResourceDef}
-use Rattle.reflection.specs.Nodes.{Node, _>>=_, typeFrom, typeLevels}
+use Rattle.reflection.specs.Nodes.{Node, _>>=_, typeFromNodes, typeLevels}
 use Rattle.reflection.specs.Records.{bindingWidth, bufferWidth, variableWidth, typeWidth, bindingAt, bufferAt, variableAt, typeAt}
-use Rattle.reflection.specs.Decode.{check, recordsFrom, firstRecords, bindingFrom, variableFrom, bufferFrom, nodeFrom, variablesFrom, buffersFrom, rd11From, decode}
+use Rattle.reflection.specs.Decode.{guard, recordsFrom, firstRecords, bindingFromTable, variableFromTable, bufferFromTable, nodeFromTable, variablesFrom, buffersFrom, rd11FromHeader, decode}
 use Rattle.type_equality.proofs.Decoded.{type-decoded}
-use Rattle.table_placing.specs.Held.{rootAt, variableHeld, countAt, firstVariable, bufferHeld, reflectionHeld}
+use Rattle.table_placing.specs.TableReflection.{rootAt, variableInTable, countAt, firstVariable, bufferInTable, reflectionInTables}
 use Rattle.table_placing.proofs.Lists.{length-records, take-records, drop-records}
 
 -- A step that answered: it was given something, and went on with it.
@@ -35,8 +35,8 @@ unfolding _>>=_
 went none f b e = absurd (Option·none-ne-some b e)
 went (some a) f b e = record { from = a; given = refl; on = e }
 
-checked : (b : Bool) {x : Unit {0}} → check b ≡ some x → b ≡ true
-unfolding check
+checked : (b : Bool) {x : Unit {0}} → guard b ≡ some x → b ≡ true
+unfolding guard
 checked true e = refl
 checked false {x} e = absurd (Option·none-ne-some x e)
 
@@ -47,12 +47,12 @@ record First {A : Type 0} (width : ℕ) (record-at : List ℕ → ℕ → A) (t 
 first-held : {A : Type 0} (width : ℕ) (record-at : List ℕ → ℕ → A) (t : List ℕ) (n : ℕ) (xs : List A) → firstRecords width record-at t n ≡ some xs → First width record-at t n xs
 unfolding firstRecords
 first-held width record-at t n xs e =
-    let w = went (check (leb n (length t / width))) (λ _. some (recordsFrom (record-at t) 0 n)) xs e in
+    let w = went (guard (leb n (length t / width))) (λ _. some (recordsFrom (record-at t) 0 n)) xs e in
     record { held = leb-true n (length t / width) (checked (leb n (length t / width)) (w .given)); are = sym (Option·some-injective (recordsFrom (record-at t) 0 n) xs (w .on)) }
 
 module _ (variables types : List ℕ) where
   record VariablesDecoded (j n m : ℕ) (vs : List (CBufferVariable Text Text)) : Type 0 where
-    are : vs ≡ recordsFrom (variableHeld variables types) j n
+    are : vs ≡ recordsFrom (variableInTable variables types) j n
     end : rootAt types (j + n) ≡ rootAt types j + m
 
   no-variable : (ns : List (Node Text)) {vs : List (CBufferVariable Text Text)} → variablesFrom [] ns ≡ some vs → (length ns ≡ 0) × (vs ≡ [])
@@ -61,28 +61,28 @@ module _ (variables types : List ℕ) where
   no-variable (n ∷ ns) {vs} e = absurd (Option·none-ne-some vs e)
 
   variables-decoded : (n j m : ℕ) (vs : List (CBufferVariable Text Text)) → rootAt types j + m ≤ length types / typeWidth
-      → variablesFrom (recordsFrom (variableAt variables) j n) (map nodeFrom (recordsFrom (typeAt types) (rootAt types j) m)) ≡ some vs → VariablesDecoded j n m vs
-  unfolding recordsFrom variablesFrom rootAt variableHeld
+      → variablesFrom (recordsFrom (variableAt variables) j n) (map nodeFromTable (recordsFrom (typeAt types) (rootAt types j) m)) ≡ some vs → VariablesDecoded j n m vs
+  unfolding recordsFrom variablesFrom rootAt variableInTable
   variables-decoded zero j m vs held e =
-      let none = no-variable (map nodeFrom (recordsFrom (typeAt types) (rootAt types j) m)) e in
-      let empty : m ≡ 0 = sym (length-records (typeAt types) (rootAt types j) m) ∙ sym (length-map (recordsFrom (typeAt types) (rootAt types j) m) nodeFrom) ∙ none .0 in
+      let none = no-variable (map nodeFromTable (recordsFrom (typeAt types) (rootAt types j) m)) e in
+      let empty : m ≡ 0 = sym (length-records (typeAt types) (rootAt types j) m) ∙ sym (length-map (recordsFrom (typeAt types) (rootAt types j) m) nodeFromTable) ∙ none .0 in
       record { are = none .1; end = ap (rootAt types) (add-zero j) ∙ omega (arith, empty) }
   variables-decoded (suc n) j m vs held e =
-      let w = went (typeFrom typeLevels (map nodeFrom (recordsFrom (typeAt types) (rootAt types j) m))) (λ t. variablesFrom (recordsFrom (variableAt variables) (suc j) n) (t .left) >>= λ others. some (variableFrom (variableAt variables j) (t .type) ∷ others)) vs e in
+      let w = went (typeFromNodes typeLevels (map nodeFromTable (recordsFrom (typeAt types) (rootAt types j) m))) (λ t. variablesFrom (recordsFrom (variableAt variables) (suc j) n) (t .left) >>= λ others. some (variableFromTable (variableAt variables j) (t .type) ∷ others)) vs e in
       let t = type-decoded types typeLevels (rootAt types j) m (w .from) held (w .given) in
-      let others = went (variablesFrom (recordsFrom (variableAt variables) (suc j) n) (w .from .left)) (λ others. some (variableFrom (variableAt variables j) (w .from .type) ∷ others)) vs (w .on) in
+      let others = went (variablesFrom (recordsFrom (variableAt variables) (suc j) n) (w .from .left)) (λ others. some (variableFromTable (variableAt variables j) (w .from .type) ∷ others)) vs (w .on) in
       let rest = variables-decoded n (suc j) (rootAt types j + m - rootAt types (suc j)) (others .from) (omega (arith, t .within, held))
       (ap (λ (ns : List (Node Text)). variablesFrom (recordsFrom (variableAt variables) (suc j) n) ns) (sym (t .left)) ∙ others .given) in
       record {
         are =
-            sym (Option·some-injective (variableFrom (variableAt variables j) (w .from .type) ∷ others .from) vs (others .on))
-            ∙ (let typed = sym (t .type) in λ i. variableFrom (variableAt variables j) (typed i) ∷ rest .are i);
+            sym (Option·some-injective (variableFromTable (variableAt variables j) (w .from .type) ∷ others .from) vs (others .on))
+            ∙ (let typed = sym (t .type) in λ i. variableFromTable (variableAt variables j) (typed i) ∷ rest .are i);
         end = ap (rootAt types) (add-suc j n ∙ sym (suc-add j n)) ∙ rest .end ∙ omega (arith, t .within);
       }
 
   module _ (buffers : List ℕ) where
     record BuffersDecoded (i n m : ℕ) (bs : List (CBufferDef Text Text)) : Type 0 where
-      are : bs ≡ recordsFrom (bufferHeld buffers variables types) i n
+      are : bs ≡ recordsFrom (bufferInTable buffers variables types) i n
       end : firstVariable buffers (i + n) ≡ firstVariable buffers i + m
 
     no-buffer : (vs : List (CBufferVariable Text Text)) {bs : List (CBufferDef Text Text)} → buffersFrom [] vs ≡ some bs → (length vs ≡ 0) × (bs ≡ [])
@@ -91,32 +91,32 @@ module _ (variables types : List ℕ) where
     no-buffer (v ∷ vs) {bs} e = absurd (Option·none-ne-some bs e)
 
     buffers-decoded : (n i m : ℕ) (bs : List (CBufferDef Text Text))
-        → buffersFrom (recordsFrom (bufferAt buffers) i n) (recordsFrom (variableHeld variables types) (firstVariable buffers i) m) ≡ some bs → BuffersDecoded i n m bs
-    unfolding recordsFrom buffersFrom firstVariable bufferHeld countAt
+        → buffersFrom (recordsFrom (bufferAt buffers) i n) (recordsFrom (variableInTable variables types) (firstVariable buffers i) m) ≡ some bs → BuffersDecoded i n m bs
+    unfolding recordsFrom buffersFrom firstVariable bufferInTable countAt
     buffers-decoded zero i m bs e =
-        let none = no-buffer (recordsFrom (variableHeld variables types) (firstVariable buffers i) m) e in
-        let empty : m ≡ 0 = sym (length-records (variableHeld variables types) (firstVariable buffers i) m) ∙ none .0 in
+        let none = no-buffer (recordsFrom (variableInTable variables types) (firstVariable buffers i) m) e in
+        let empty : m ≡ 0 = sym (length-records (variableInTable variables types) (firstVariable buffers i) m) ∙ none .0 in
         record { are = none .1; end = ap (firstVariable buffers) (add-zero i) ∙ omega (arith, empty) }
     buffers-decoded (suc n) i m bs e =
-        let vs : List (CBufferVariable Text Text) = recordsFrom (variableHeld variables types) (firstVariable buffers i) m in
+        let vs : List (CBufferVariable Text Text) = recordsFrom (variableInTable variables types) (firstVariable buffers i) m in
         let c : ℕ = countAt buffers i in
-        let f : List (CBufferDef Text Text) → Option (List (CBufferDef Text Text)) = λ others. some (bufferFrom (bufferAt buffers i) (take c vs) ∷ others) in
-        let w = went (check (leb c (length vs))) (λ _. buffersFrom (recordsFrom (bufferAt buffers) (suc i) n) (drop c vs) >>= f) bs e in
-        let few : c ≤ m = omega (arith, leb-true c (length vs) (checked (leb c (length vs)) (w .given)), length-records (variableHeld variables types) (firstVariable buffers i) m) in
+        let f : List (CBufferDef Text Text) → Option (List (CBufferDef Text Text)) = λ others. some (bufferFromTable (bufferAt buffers i) (take c vs) ∷ others) in
+        let w = went (guard (leb c (length vs))) (λ _. buffersFrom (recordsFrom (bufferAt buffers) (suc i) n) (drop c vs) >>= f) bs e in
+        let few : c ≤ m = omega (arith, leb-true c (length vs) (checked (leb c (length vs)) (w .given)), length-records (variableInTable variables types) (firstVariable buffers i) m) in
         let others = went (buffersFrom (recordsFrom (bufferAt buffers) (suc i) n) (drop c vs)) f bs (w .on) in
         let rest = buffers-decoded n (suc i) (m - c) (others .from)
-        (ap (buffersFrom (recordsFrom (bufferAt buffers) (suc i) n)) (sym (drop-records (variableHeld variables types) (firstVariable buffers i) m c few)) ∙ others .given) in
-        let first = take-records (variableHeld variables types) (firstVariable buffers i) m c few in
+        (ap (buffersFrom (recordsFrom (bufferAt buffers) (suc i) n)) (sym (drop-records (variableInTable variables types) (firstVariable buffers i) m c few)) ∙ others .given) in
+        let first = take-records (variableInTable variables types) (firstVariable buffers i) m c few in
         record {
           are =
-              sym (Option·some-injective (bufferFrom (bufferAt buffers i) (take c vs) ∷ others .from) bs (others .on))
-              ∙ (λ z. bufferFrom (bufferAt buffers i) (first z) ∷ rest .are z);
+              sym (Option·some-injective (bufferFromTable (bufferAt buffers i) (take c vs) ∷ others .from) bs (others .on))
+              ∙ (λ z. bufferFromTable (bufferAt buffers i) (first z) ∷ rest .are z);
           end = ap (firstVariable buffers) (add-suc i n ∙ sym (suc-add i n)) ∙ rest .end ∙ omega (arith, few);
         }
 
 -- A reflection that was decoded, and what decoding tested on the way.
 pub record Decoded (h : Header) (bindings buffers variables types : List ℕ) (r : ResourceDef Text Text) : Type 0 where
-  pub is : r ≡ reflectionHeld h bindings buffers variables types
+  pub is : r ≡ reflectionInTables h bindings buffers variables types
   pub variables-counted : firstVariable buffers (h .«buffer_count») ≡ h .«variable_count»
   pub nodes-counted : rootAt types (h .«variable_count») ≡ h .«type_count»
   pub holds-bindings : h .«binding_count» ≤ length bindings / bindingWidth
@@ -129,22 +129,22 @@ module _ (h : Header) (bindings buffers variables types : List ℕ) where
   with-parts bs filled = record {
     target-version = h .«target_version»;
     compile-flags = h .«compile_flags»;
-    rd11 = rd11From h;
+    rd11 = rd11FromHeader h;
     creator = h .creator;
-    bindings = map bindingFrom bs;
+    bindings = map bindingFromTable bs;
     constant-buffers = filled;
   }
 
   from-parts : {bs : List BindingRecord} {cs : List BufferRecord} {vs : List VariableRecord} {ts : List TypeRecord} {typed : List (CBufferVariable Text Text)} {filled : List (CBufferDef Text Text)} {r : ResourceDef Text Text}
       → First bindingWidth bindingAt bindings (h .«binding_count») bs → First bufferWidth bufferAt buffers (h .«buffer_count») cs → First variableWidth variableAt variables (h .«variable_count») vs
-      → First typeWidth typeAt types (h .«type_count») ts → variablesFrom vs (map nodeFrom ts) ≡ some typed → buffersFrom cs typed ≡ some filled → with-parts bs filled ≡ r
+      → First typeWidth typeAt types (h .«type_count») ts → variablesFrom vs (map nodeFromTable ts) ≡ some typed → buffersFrom cs typed ≡ some filled → with-parts bs filled ≡ r
       → Decoded h bindings buffers variables types r
-  unfolding reflectionHeld rootAt firstVariable
+  unfolding reflectionInTables rootAt firstVariable
   from-parts {typed = typed} {filled} b c v t vs-decoded bs-decoded parts =
       let v-are = sym (v .are) in
       let t-are = sym (t .are) in
       let c-are = sym (c .are) in
-      let vs = variables-decoded variables types (h .«variable_count») 0 (h .«type_count») typed (omega (arith, t .held)) ((λ z. variablesFrom (v-are z) (map nodeFrom (t-are z))) ∙ vs-decoded) in
+      let vs = variables-decoded variables types (h .«variable_count») 0 (h .«type_count») typed (omega (arith, t .held)) ((λ z. variablesFrom (v-are z) (map nodeFromTable (t-are z))) ∙ vs-decoded) in
       let typed-are = sym (vs .are) in
       let bs = buffers-decoded variables types buffers (h .«buffer_count») 0 (h .«variable_count») filled ((λ z. buffersFrom (c-are z) (typed-are z)) ∙ bs-decoded) in
       record {
@@ -164,7 +164,7 @@ module _ (h : Header) (bindings buffers variables types : List ℕ) where
       let c = went (firstRecords bufferWidth bufferAt buffers (h .«buffer_count»)) _ r (b .on) in
       let v = went (firstRecords variableWidth variableAt variables (h .«variable_count»)) _ r (c .on) in
       let t = went (firstRecords typeWidth typeAt types (h .«type_count»)) _ r (v .on) in
-      let typed = went (variablesFrom (v .from) (map nodeFrom (t .from))) _ r (t .on) in
+      let typed = went (variablesFrom (v .from) (map nodeFromTable (t .from))) _ r (t .on) in
       let filled = went (buffersFrom (c .from) (typed .from)) _ r (typed .on) in
       from-parts (first-held _ _ _ _ _ (b .given)) (first-held _ _ _ _ _ (c .given)) (first-held _ _ _ _ _ (v .given)) (first-held _ _ _ _ _ (t .given)) (typed .given) (filled .given)
       (Option·some-injective (with-parts (b .from) (filled .from)) r (filled .on))

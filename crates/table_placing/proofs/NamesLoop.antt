@@ -13,7 +13,7 @@ use Rattle.writing.specs.Layout.{placeOuterName, placeOuterNames}
 use Rattle.text_pool.specs.Pool.{entryCount}
 use Rattle.placing.specs.declared.Spot.{Spot}
 use Rattle.placing.specs.Ran.{textOracle}
-use Rattle.placing.specs.Scratch.{innerStart, scratchSize, outerPool, Ready}
+use Rattle.placing.specs.Scratch.{innerStart, scratchSize, outerPool, PoolsReady}
 use Rattle.placing.specs.Pooling.{placedLimit}
 use Rattle.placing.specs.InScratch.{Kept, TextPlaced}
 use Rattle.placing.proofs.ScratchPools.{ready-kept, outer-kept-before}
@@ -47,13 +47,13 @@ pub record NamesSoFar (chunk edits : List ℕ) (names : ℕ → Text) (n start s
   pub so-far : (types : List ℕ)
       → SoFar chunk edits (placeOuterNames (textOracle chunk edits)) (recordsFrom names 0 n) at₀ (poolsAt types s₀ 0 0) out₀
       (recordsFrom names i (n - i)) at (poolsAt types s 0 0) out (recordsFrom (storedAt start step s) 0 i)
-  pub ready : Ready chunk edits s
+  pub ready : PoolsReady chunk edits s
   pub same : Same innerStart start s₀ s
   pub entries : entryCount (outerPool s) ≤ entryCount (outerPool s₀) + i
   pub near : at ≤ at₀ + i * placedLimit
 
 module _ (chunk edits : List ℕ) (names : ℕ → Text) (n start step at₀ : ℕ) (s₀ out₀ : List ℕ) where
-  pub names-none : Ready chunk edits s₀ → NamesSoFar chunk edits names n start step at₀ s₀ out₀ s₀ out₀ at₀ 0
+  pub names-none : PoolsReady chunk edits s₀ → NamesSoFar chunk edits names n start step at₀ s₀ out₀ s₀ out₀ at₀ 0
   unfolding recordsFrom
   names-none ready = record {
     within = omega arith;

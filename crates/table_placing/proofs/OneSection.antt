@@ -13,11 +13,11 @@ use Rattle.words.specs.Splice.{Put}
 use Rattle.reflection.specs.declared.Text.{Text}
 use Rattle.reflection.specs.Reflection.{CBufferVariable}
 use Rattle.reflection.specs.Records.{bufferAt}
-use Rattle.reflection.specs.Decode.{recordsFrom, bufferFrom, variableFrom}
+use Rattle.reflection.specs.Decode.{recordsFrom, bufferFromTable, variableFromTable}
 use Rattle.reflection.specs.Limits.{bufferRoom, variableRoom, typeRoom}
 use Rattle.reflection.specs.Strides.{variableStride}
 use Rattle.writing.specs.Step.{paddingAt}
-use Rattle.writing.specs.Records.{VariableOffsets, rows, variableWords, variableSize}
+use Rattle.writing.specs.Records.{VariableOffsets, rows, variableWordsInChunk, variableSize}
 use Rattle.writing.specs.Layout.{placeVariables, placeSection}
 use Rattle.text_pool.specs.Pool.{entryCount}
 use Rattle.placing.specs.Ran.{Ran, textOracle}
@@ -28,7 +28,7 @@ use Rattle.placing.proofs.Stores.{padding-short}
 use Rattle.placing.proofs.Runs.{ran-like, ran-step}
 use Rattle.placing.proofs.ScratchPools.{ready-kept, inner-kept-before, defaults-kept-before}
 use Rattle.table_placing.specs.declared.Reached.{Reached}
-use Rattle.table_placing.specs.Held.{rootAt, countAt, firstVariable, variableHeld, bufferHeld}
+use Rattle.table_placing.specs.TableReflection.{rootAt, countAt, firstVariable, variableInTable, bufferInTable}
 use Rattle.table_placing.specs.Offsets.{variableOffsets, sectionStart, bufferSection, rowsFrom, variableRow}
 use Rattle.table_placing.specs.Placed.{poolsAt}
 use Rattle.table_placing.specs.Moved.{Moved, VariablesPlaced}
@@ -39,9 +39,9 @@ use Rattle.table_placing.proofs.Pools.{kept-set, pools-at-kept, ran-fro
 
 -- The records' words are the rows that were written.
 pub variable-rows : (sm5 : Bool) (variables types s : List ℕ) (j count : ℕ)
-    → rows (variableWords sm5) (recordsFrom (variableHeld variables types) j count) (recordsFrom (variableOffsets s) j count) ≡ rowsFrom (variableRow sm5 variables s) j count
-unfolding variableHeld variableRow variableWords variableFrom
-variable-rows sm5 variables types s j count = rows-records (variableWords sm5) (variableHeld variables types) (variableOffsets s) j count
+    → rows (variableWordsInChunk sm5) (recordsFrom (variableInTable variables types) j count) (recordsFrom (variableOffsets s) j count) ≡ rowsFrom (variableRow sm5 variables s) j count
+unfolding variableInTable variableRow variableWordsInChunk variableFromTable
+variable-rows sm5 variables types s j count = rows-records (variableWordsInChunk sm5) (variableInTable variables types) (variableOffsets s) j count
 
 -- Padding moves the cursor by at most 3, and a variable's record takes at most the longer stride.
 pub padding-near : {out out′ : List ℕ} {at to : ℕ} → Put out at (replicate (paddingAt at) 0xab) out′ to → (at ≤ to) × (to ≤ at + 3)
@@ -84,13 +84,13 @@ module _ {chunk edits : List ℕ} (buffers variables types : List ℕ) {sm5 : Bo
       λ z. record { start = begins z; offsets = same z }
 
   abbrev vs : List (CBufferVariable Text Text)
-  vs = recordsFrom (variableHeld variables types) j count
+  vs = recordsFrom (variableInTable variables types) j count
 
   abbrev os : List VariableOffsets
   os = recordsFrom (variableOffsets s₁) j count
 
   long-vs : length vs ≡ count
-  long-vs = length-records (variableHeld variables types) j count
+  long-vs = length-records (variableInTable variables types) j count
 
   variables-ran : Ran chunk edits (placeVariables (textOracle chunk edits) sm5 (eqb (bufferAt buffers i .«cb_type») 0) vs) (start + 4 * (length vs * variableSize sm5)) (poolsAt types s roots n)
       out₁ out₂ os (r .at) (poolsAt types s₁ (r .roots) (r .n))
@@ -98,11 +98,11 @@ module _ {chunk edits : List ℕ} (buffers variables types : List ℕ) {sm5 : Bo
       ran-from (from ∙ ap (λ (x : ℕ). start + 4 * (x * variableSize sm5)) (sym long-vs))
       (ran-step chunk edits (ap (λ (b : Bool). placeVariables (textOracle chunk edits) sm5 b vs) is-share) (placed .ran))
 
-  all-ran : Ran chunk edits (placeSection (textOracle chunk edits) sm5 (bufferHeld buffers variables types i)) at (poolsAt types s roots n) out out₃ (bufferSection buffers s₂ i) (r .at) (poolsAt types s₂ (r .roots) (r .n))
-  unfolding bufferHeld bufferFrom
+  all-ran : Ran chunk edits (placeSection (textOracle chunk edits) sm5 (bufferInTable buffers variables types i)) at (poolsAt types s roots n) out out₃ (bufferSection buffers s₂ i) (r .at) (poolsAt types s₂ (r .roots) (r .n))
+  unfolding bufferInTable bufferFromTable
   all-ran =
       ran-like chunk edits refl (sym (pools-at-kept types (r .roots) (r .n) (placed .moved .ready) kept (omega arith) shared-room room)) stored
-      (ran-section chunk edits sm5 (bufferHeld buffers variables types i) padded variables-ran
+      (ran-section chunk edits sm5 (bufferInTable buffers variables types i) padded variables-ran
       (subst (λ x. Put out₂ start (joinedBytes x) out₃ end) (sym (variable-rows sm5 variables types s₁ j count)) written))
 
   moved : Moved chunk edits j count k (r .next) n (r .n) roots (r .roots) s s₂

@@ -12,9 +12,9 @@ use Rattle.reflection.specs.declared.CBufferVariable.{CBufferVariable as Variab
 use Rattle.reflection.specs.declared.Text.{Text}
 use Rattle.reflection.specs.Nodes.{typeLevels}
 use Rattle.reflection.specs.Records.{variableAt}
-use Rattle.reflection.specs.Decode.{variableFrom}
+use Rattle.reflection.specs.Decode.{variableFromTable}
 use Rattle.reflection.specs.Limits.{typeRoom, variableRoom}
-use Rattle.writing.specs.Step.{Step}
+use Rattle.writing.specs.Step.{WriteStep}
 use Rattle.writing.specs.Layout.{placeInnerName, placeDefault, placeType, placeVariable}
 use Rattle.text_pool.specs.Pool.{entryCount}
 use Rattle.placing.specs.declared.Spot.{Spot}
@@ -27,21 +27,21 @@ use Rattle.placing.proofs.Runs.{ran-like}
 use Rattle.type_equality.specs.Trees.{treeAt, typeTree}
 use Rattle.type_equality.proofs.Trees.{tree-up}
 use Rattle.type_placing.specs.declared.RootSpan.{RootSpan}
-use Rattle.type_placing.specs.Room.{Room}
+use Rattle.type_placing.specs.Room.{NodeRoom}
 use Rattle.type_placing.specs.TypePlaced.{RootTypePlaced}
 use Rattle.table_placing.specs.Offsets.{variableOffsets}
 use Rattle.table_placing.specs.Placed.{poolsAt}
-use Rattle.table_placing.specs.Moved.{Within, Moved, VariablePlaced}
+use Rattle.table_placing.specs.Moved.{CursorBounds, Moved, VariablePlaced}
 use Rattle.table_placing.proofs.Steps.{ran-variable}
 use Rattle.table_placing.proofs.Pools.{kept-splice, pools-at-kept, text-placed-at}
 
 -- There is room for the name, then for the type, then for the default.
-module _ (types : List ℕ) {j k n roots at : ℕ} {s : List ℕ} (within : Within j k n roots at s) (fits : treeAt types typeLevels k .next ≤ typeRoom) (few : j < variableRoom) where
+module _ (types : List ℕ) {j k n roots at : ℕ} {s : List ℕ} (within : CursorBounds j k n roots at s) (fits : treeAt types typeLevels k .next ≤ typeRoom) (few : j < variableRoom) where
   pub room-for-name : (entryCount (innerPool s) < innerRoom) × (at ≤ farthestOffset)
   room-for-name = omega (arith, within .names, within .cursor, tree-up types typeLevels k, fits)
 
-  module _ {chunk edits : List ℕ} {step : Step Text Text ℕ} {s₁ out out₁ : List ℕ} {a : Spot} (named : TextPlaced chunk edits step at innerPool innerStart defaultsStart s s₁ out out₁ a) where
-    pub room-for-type : Room s₁ k 1 (a .at) n recordsStart
+  module _ {chunk edits : List ℕ} {step : WriteStep Text Text ℕ} {s₁ out out₁ : List ℕ} {a : Spot} (named : TextPlaced chunk edits step at innerPool innerStart defaultsStart s s₁ out out₁ a) where
+    pub room-for-type : NodeRoom s₁ k 1 (a .at) n recordsStart
     room-for-type = record {
       cursor = omega (arith, within .cursor, named .near-high);
       names = omega (arith, within .names, named .count-high);
@@ -56,7 +56,7 @@ module _ (types : List ℕ) {j k n roots at : ℕ} {s : List ℕ} (within : With
         omega (arith, ap entryCount (typed .defaults-same), ap entryCount (defaults-kept-after (named .kept) long (omega arith)), within .defaults, within .cursor, named .near-high, typed .near, typed .next, fits, few)
 
 module _ {chunk edits : List ℕ} (variables types : List ℕ) {sm5 share : Bool} (j k n roots : ℕ) {at : ℕ} {s s₁ s₂ s₃ out out₁ out₂ out₃ : List ℕ} {a d : Spot} {t : RootSpan} {v : VariableRecord}
-    (within : Within j k n roots at s) (fits : treeAt types typeLevels k .next ≤ typeRoom) (few : j < variableRoom) (long : scratchSize ≤ length s) (is : v ≡ variableAt variables j)
+    (within : CursorBounds j k n roots at s) (fits : treeAt types typeLevels k .next ≤ typeRoom) (few : j < variableRoom) (long : scratchSize ≤ length s) (is : v ≡ variableAt variables j)
     (named : TextPlaced chunk edits (placeInnerName (textOracle chunk edits) (v .name)) at innerPool innerStart defaultsStart s s₁ out out₁ a)
     (typed : RootTypePlaced chunk edits types sm5 share typeLevels k n roots (a .at) s₁ s₂ out₁ out₂ t)
     (defaulted : TextPlaced chunk edits (placeDefault (textOracle chunk edits) (v .«default_value»)) (t .at) defaultPool defaultsStart rootTypesStart s₂ s₃ out₂ out₃ d) where
@@ -96,12 +96,12 @@ module _ {chunk edits : List ℕ} (variables types : List ℕ) {sm5 share : Bool
       text-placed-at types (t .roots) (t .n)
       (subst (λ x. TextPlaced chunk edits (placeDefault (textOracle chunk edits) (x .«default_value»)) (t .at) defaultPool defaultsStart rootTypesStart s₂ s₃ out₂ out₃ d) is defaulted) (omega arith)
 
-  all-ran : Ran chunk edits (placeVariable (textOracle chunk edits) sm5 share (variableFrom (variableAt variables j) (typeTree types typeLevels k))) at (poolsAt types s roots n)
+  all-ran : Ran chunk edits (placeVariable (textOracle chunk edits) sm5 share (variableFromTable (variableAt variables j) (typeTree types typeLevels k))) at (poolsAt types s roots n)
       out out₃ (variableOffsets s₄ j) (d .at) (poolsAt types s₄ (t .roots) (t .n))
-  unfolding variableFrom
+  unfolding variableFromTable
   all-ran =
       ran-like chunk edits refl (sym (pools-at-kept types (t .roots) (t .n) (defaulted .ready) kept (omega arith) (bounds .1) (bounds .0))) stored
-      (ran-variable chunk edits sm5 share (variableFrom (variableAt variables j) (typeTree types typeLevels k)) named-at typed-at defaulted-at)
+      (ran-variable chunk edits sm5 share (variableFromTable (variableAt variables j) (typeTree types typeLevels k)) named-at typed-at defaulted-at)
 
   moved : Moved chunk edits j 1 k (t .next) n (t .n) roots (t .roots) s s₄
   moved = record {

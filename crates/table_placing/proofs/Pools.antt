@@ -6,16 +6,17 @@ use Prim.Native.Nat.{ℕ, _+_, _-_, _≤_}
 use native.Mathlib.Omega.{arith}
 use lib.ListN.{length, set, length-set}
 use lib.Seq.{getD-set-other}
-use Rattle.words.specs.Splice.{splice, length-splice}
+use Rattle.words.specs.Splice.{splice}
+use Rattle.words.proofs.Splice.{length-splice}
 use Rattle.words.proofs.Splice.{splice-keeps-before, splice-keeps-after}
 use Rattle.reflection.specs.declared.Text.{Text}
 use Rattle.reflection.specs.Reflection.{TypeDesc}
 use Rattle.reflection.specs.Nodes.{typeLevels}
 use Rattle.reflection.specs.Limits.{variableRoom, typeRoom}
-use Rattle.writing.specs.Step.{Pools, Step}
+use Rattle.writing.specs.Step.{Pools, WriteStep}
 use Rattle.placing.specs.declared.Spot.{Spot}
 use Rattle.placing.specs.Ran.{Ran}
-use Rattle.placing.specs.Scratch.{innerStart, defaultsStart, rootTypesStart, recordsStart, scratchSize, innerPool, defaultPool, typesFrom, poolsIn, Ready}
+use Rattle.placing.specs.Scratch.{innerStart, defaultsStart, rootTypesStart, recordsStart, scratchSize, innerPool, defaultPool, typesFrom, poolsIn, PoolsReady}
 use Rattle.placing.specs.InScratch.{Kept, TextPlaced}
 use Rattle.placing.proofs.Regions.{region-agree, types-kept-before, types-kept-after}
 use Rattle.placing.proofs.Runs.{ran-like, ran-long}
@@ -65,17 +66,17 @@ kept-splice s k xs = record {
 }
 
 -- The same run from an equal cursor.
-pub ran-from : {chunk edits : List ℕ} {A : Type 0} {step : Step Text Text A} {at at′ to : ℕ} {ps ps′ : Pools Text Text} {out out′ : List ℕ} {a : A} → at ≡ at′ → Ran chunk edits step at ps out out′ a to ps′
+pub ran-from : {chunk edits : List ℕ} {A : Type 0} {step : WriteStep Text Text A} {at at′ to : ℕ} {ps ps′ : Pools Text Text} {out out′ : List ℕ} {a : A} → at ≡ at′ → Ran chunk edits step at ps out out′ a to ps′
     → Ran chunk edits step at′ ps out out′ a to ps′
 ran-from {chunk} {edits} {step = step} {to = to} {ps} {ps′} {out} {out′} {a} e ran = subst (λ x. Ran chunk edits step x ps out out′ a to ps′) e ran
 
-pub text-placed-long : {chunk edits : List ℕ} {step : Step Text Text ℕ} {at from to : ℕ} {pool : List ℕ → List ℕ} {s s′ out out′ : List ℕ} {r : Spot}
+pub text-placed-long : {chunk edits : List ℕ} {step : WriteStep Text Text ℕ} {at from to : ℕ} {pool : List ℕ → List ℕ} {s s′ out out′ : List ℕ} {r : Spot}
     → TextPlaced chunk edits step at pool from to s s′ out out′ r → length out′ ≡ length out
 text-placed-long placed = ran-long (placed .ran [] (typeTree [] 0) 0 0)
 
 module _ (types : List ℕ) where
   -- What changed lies behind the pools.
-  pub pools-at-kept : {chunk edits s s′ : List ℕ} {from to : ℕ} (roots n : ℕ) → Ready chunk edits s → Kept from to s s′ → recordsStart ≤ from → roots ≤ variableRoom → n ≤ typeRoom
+  pub pools-at-kept : {chunk edits s s′ : List ℕ} {from to : ℕ} (roots n : ℕ) → PoolsReady chunk edits s → Kept from to s s′ → recordsStart ≤ from → roots ≤ variableRoom → n ≤ typeRoom
       → poolsAt types s′ roots n ≡ poolsAt types s roots n
   unfolding poolsAt
   pools-at-kept {s = s} {s′} roots n ready kept behind few-roots few =
@@ -83,7 +84,7 @@ module _ (types : List ℕ) where
       ∙ pools-kept-before ready kept (omega arith) (typesFrom (typeTree types typeLevels) rootTypesStart s 0 roots) (typeTree types (typeLevels - 1)) 0 n (omega arith)
 
   -- A text was placed: its pool lies before the types.
-  pub text-placed-at : {chunk edits : List ℕ} {step : Step Text Text ℕ} {at from to : ℕ} {pool : List ℕ → List ℕ} {s s′ out out′ : List ℕ} {r : Spot} (roots n : ℕ)
+  pub text-placed-at : {chunk edits : List ℕ} {step : WriteStep Text Text ℕ} {at from to : ℕ} {pool : List ℕ → List ℕ} {s s′ out out′ : List ℕ} {r : Spot} (roots n : ℕ)
       → TextPlaced chunk edits step at pool from to s s′ out out′ r → to ≤ rootTypesStart
       → Ran chunk edits step at (poolsAt types s roots n) out out′ (r .offset) (r .at) (poolsAt types s′ roots n)
   unfolding poolsAt

@@ -12,8 +12,8 @@ use Rattle.reflection.specs.declared.CBufferDef.{CBufferDef as BufferRecord}
 use Rattle.reflection.specs.declared.ResourceBinding.{ResourceBinding as BindingRecord}
 use Rattle.reflection.specs.Reflection.{Rd11, noRd11, rd11, isSm5, majorOf}
 use Rattle.reflection.specs.Records.{variableAt, bufferAt, bindingAt}
-use Rattle.reflection.specs.Decode.{bindingFrom, rd11From}
-use Rattle.writing.specs.Records.{wordsIf, bindingWords, rd11Words, headerSize}
+use Rattle.reflection.specs.Decode.{bindingFromTable, rd11FromHeader}
+use Rattle.writing.specs.Records.{wordsIf, bindingWordsInChunk, rd11Words, headerWordCount}
 use Rattle.placing.specs.Bytes.{joinedBytes}
 use Rattle.placing.specs.Scratch.{variableOffsetsWidth, bufferOffsetsWidth, variablesStart, buffersStart, bindingsStart}
 use Rattle.table_placing.specs.Offsets.{variableOffsets, bufferName, sectionStart, bindingName, variableRow, bufferRow, bindingRow, headerRow}
@@ -32,7 +32,7 @@ binding-words wide b name =
 
 abbrev header-words : Header → ℕ → ℕ → Rd11 → List ℕ
 header-words h buffers creator x =
-    h .«buffer_count» ∷ buffers ∷ h .«binding_count» ∷ 4 * headerSize (isSm5 x) ∷ h .«target_version» ∷ h .«compile_flags» ∷ creator ∷ rd11Words x
+    h .«buffer_count» ∷ buffers ∷ h .«binding_count» ∷ 4 * headerWordCount (isSm5 x) ∷ h .«target_version» ∷ h .«compile_flags» ∷ creator ∷ rd11Words x
 
 abbrev rd11-words : Header → Bool → Rd11
 rd11-words h false = noRd11
@@ -42,8 +42,8 @@ abbrev rd11-by : Header → Bool → Rd11
 rd11-by h m = elim m [ true ↦ rd11 (h .rd11 .identifier) (h .rd11 .«resource_binding_stride») (h .rd11 .«interface_slot_count») | false ↦ noRd11 ]
 
 -- The RD11 words are there in major 5 and in no other.
-pub rd11-is : (h : Header) → rd11From h ≡ rd11-words h (isSm5 (rd11From h))
-unfolding rd11From
+pub rd11-is : (h : Header) → rd11FromHeader h ≡ rd11-words h (isSm5 (rd11FromHeader h))
+unfolding rd11FromHeader
 rd11-is h = go (eqb (majorOf (h .«target_version»)) 5)
   where
     go : (m : Bool) → rd11-by h m ≡ rd11-words h (isSm5 (rd11-by h m))
@@ -65,12 +65,12 @@ module _ {out out′ : List ℕ} {at to : ℕ} where
 
   pub put-binding-row : (bindings s : List ℕ) (i : ℕ) (b : Bool) {wide : Bool} {x : BindingRecord} → x ≡ bindingAt bindings i → wide ≡ b
       → Put out at (joinedBytes (binding-words b x (getD s (bindingsStart + i) 0))) out′ to → Put out at (joinedBytes (bindingRow wide bindings s i)) out′ to
-  unfolding bindingRow bindingWords bindingFrom bindingName
+  unfolding bindingRow bindingWordsInChunk bindingFromTable bindingName
   put-binding-row bindings s i b is e p =
       let e′ = sym e in
       subst (λ row. Put out at (joinedBytes row) out′ to) (λ z. binding-words (e′ z) (is z) (getD s (bindingsStart + i) 0)) p
 
-  pub put-header-row : (h : Header) (buffers creator : ℕ) (b : Bool) {sm5 : Bool} → sm5 ≡ isSm5 (rd11From h) → sm5 ≡ b
+  pub put-header-row : (h : Header) (buffers creator : ℕ) (b : Bool) {sm5 : Bool} → sm5 ≡ isSm5 (rd11FromHeader h) → sm5 ≡ b
       → Put out at (joinedBytes (header-words h buffers creator (rd11-words h b))) out′ to → Put out at (joinedBytes (headerRow h buffers creator)) out′ to
   unfolding headerRow
   put-header-row h buffers creator b is e p =

@@ -7,9 +7,10 @@ use native.Mathlib.Nat.{add-zero, add-suc, suc-add, mul-le-mul-left}
 use native.Mathlib.Numerals.{add-one}
 use native.Mathlib.Omega.{arith}
 use lib.ListN.{length}
-use Rattle.words.specs.Splice.{Put, put-none, put-then}
+use Rattle.words.specs.Splice.{Put}
+use Rattle.words.proofs.Splice.{put-none, put-then}
 use Rattle.reflection.specs.Strides.{bufferStride}
-use Rattle.writing.specs.Records.{variableSize, bindingWords, bindingSize}
+use Rattle.writing.specs.Records.{variableSize, bindingWordsInChunk, bindingSize}
 use Rattle.placing.specs.Bytes.{joinedBytes}
 use Rattle.placing.proofs.CellBytes.{length-joined, joined-append}
 use Rattle.table_placing.specs.Offsets.{rowsFrom, variableRow, bufferRow, bindingRow}
@@ -50,7 +51,7 @@ unfolding bufferRow
 length-buffer-row buffers s i = refl
 
 pub length-binding-row : (wide : Bool) (bindings s : List ℕ) (i : ℕ) → length (bindingRow wide bindings s i) ≡ bindingSize wide
-unfolding bindingRow bindingWords
+unfolding bindingRow bindingWordsInChunk
 length-binding-row false bindings s i = refl
 length-binding-row true bindings s i = refl
 

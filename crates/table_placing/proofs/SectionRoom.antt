@@ -17,9 +17,9 @@ use Rattle.writing.specs.Records.{variableSize}
 use Rattle.placing.specs.Bytes.{joinedBytes}
 use Rattle.placing.specs.Scratch.{bufferOffsetsWidth, buffersStart}
 use Rattle.table_placing.specs.declared.Reached.{Reached}
-use Rattle.table_placing.specs.Held.{rootAt, countAt, firstVariable}
+use Rattle.table_placing.specs.TableReflection.{rootAt, countAt, firstVariable}
 use Rattle.table_placing.specs.Offsets.{rowsFrom, variableRow}
-use Rattle.table_placing.specs.Moved.{Within, VariablesPlaced}
+use Rattle.table_placing.specs.Moved.{CursorBounds, VariablesPlaced}
 use Rattle.table_placing.specs.Sections.{Fit, SectionPlaced}
 use Rattle.table_placing.proofs.VariablesLoop.{root-up}
 use Rattle.table_placing.proofs.OneSection.{padding-near, size-near, section-placed}
@@ -29,7 +29,7 @@ unfolding firstVariable
 first-next buffers i = ap (firstVariable buffers) (sym (add-one i))
 
 module _ (buffers types : List ℕ) (i at : ℕ) {j k n roots count : ℕ} {s : List ℕ}
-    (within : Within j k n roots (at + 100000) s) (first : j ≡ firstVariable buffers i) (root : k ≡ rootAt types (firstVariable buffers i)) (fit : Fit buffers types (i + 1))
+    (within : CursorBounds j k n roots (at + 100000) s) (first : j ≡ firstVariable buffers i) (root : k ≡ rootAt types (firstVariable buffers i)) (fit : Fit buffers types (i + 1))
     (counted : count ≡ countAt buffers i) where
   pub last-variable : j + count ≡ firstVariable buffers (i + 1)
   last-variable = (λ z. first z + counted z) ∙ first-next buffers i
@@ -50,7 +50,7 @@ module _ (buffers types : List ℕ) (i at : ℕ) {j k n roots count : ℕ} {s : 
     pub section-behind : 4 * (count * size) ≤ 81920
     section-behind = omega (arith, ap (λ (x : ℕ). count * x) sized, size-near sm5 count, few-variables)
 
-    pub section-within : Within j k n roots (start + 4 * (count * size)) s
+    pub section-within : CursorBounds j k n roots (start + 4 * (count * size)) s
     section-within = record {
       cursor = omega (arith, within .cursor, section-behind, padding-near padded);
       names = within .names;

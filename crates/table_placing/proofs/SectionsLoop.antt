@@ -10,14 +10,14 @@ use Rattle.reflection.specs.Decode.{recordsFrom}
 use Rattle.reflection.specs.Limits.{bufferRoom}
 use Rattle.writing.specs.Layout.{placeSections}
 use Rattle.placing.specs.Ran.{textOracle}
-use Rattle.placing.specs.Scratch.{bufferOffsetsWidth, buffersStart, Ready}
+use Rattle.placing.specs.Scratch.{bufferOffsetsWidth, buffersStart, PoolsReady}
 use Rattle.placing.proofs.Runs.{ran-long}
 use Rattle.type_placing.specs.Room.{nodeBytes}
 use Rattle.table_placing.specs.declared.Reached.{Reached}
-use Rattle.table_placing.specs.Held.{rootAt, countAt, firstVariable, bufferHeld}
+use Rattle.table_placing.specs.TableReflection.{rootAt, countAt, firstVariable, bufferInTable}
 use Rattle.table_placing.specs.Offsets.{variableOffsets, bufferName, sectionStart, bufferSection}
 use Rattle.table_placing.specs.Placed.{poolsAt}
-use Rattle.table_placing.specs.Moved.{Within, Moved}
+use Rattle.table_placing.specs.Moved.{CursorBounds, Moved}
 use Rattle.table_placing.specs.Sections.{Fit, SectionPlaced, SectionsPlaced}
 use Rattle.table_placing.proofs.Lists.{same-records, records-more, records-left, records-done}
 use Rattle.table_placing.proofs.Many.{SoFar, so-far-none, so-far-like, so-far-more, so-far-all}
@@ -48,23 +48,23 @@ pub record SectionsSoFar (chunk edits buffers variables types : List ℕ) (sm5 :
   pub within : i ≤ count
   pub first : j ≡ firstVariable buffers i
   pub root : k ≡ rootAt types (firstVariable buffers i)
-  pub so-far : SoFar chunk edits (placeSections (textOracle chunk edits) sm5) (recordsFrom (bufferHeld buffers variables types) 0 count) at₀ (poolsAt types s₀ 0 0) out₀
-      (recordsFrom (bufferHeld buffers variables types) i (count - i)) at (poolsAt types s roots n) out (recordsFrom (bufferSection buffers s) 0 i)
+  pub so-far : SoFar chunk edits (placeSections (textOracle chunk edits) sm5) (recordsFrom (bufferInTable buffers variables types) 0 count) at₀ (poolsAt types s₀ 0 0) out₀
+      (recordsFrom (bufferInTable buffers variables types) i (count - i)) at (poolsAt types s roots n) out (recordsFrom (bufferSection buffers s) 0 i)
   pub moved : Moved chunk edits 0 (firstVariable buffers i) 0 k 0 n 0 roots s₀ s
   pub names-kept : (x : ℕ) → bufferName s x ≡ bufferName s₀ x
   pub near : at ≤ at₀ + i * 4 + k * nodeBytes
   pub out-long : length out ≡ length out₀
 
 module _ (chunk edits buffers variables types : List ℕ) (sm5 : Bool) (count at₀ : ℕ) (s₀ out₀ : List ℕ) where
-  pub sections-none : Ready chunk edits s₀ → SectionsSoFar chunk edits buffers variables types sm5 count at₀ s₀ out₀ s₀ out₀ at₀ 0 0 0 0 0
+  pub sections-none : PoolsReady chunk edits s₀ → SectionsSoFar chunk edits buffers variables types sm5 count at₀ s₀ out₀ s₀ out₀ at₀ 0 0 0 0 0
   unfolding recordsFrom firstVariable rootAt
   sections-none ready = record {
     within = omega arith;
     first = refl;
     root = refl;
     so-far =
-        so-far-like chunk edits (placeSections (textOracle chunk edits) sm5) (ap (recordsFrom (bufferHeld buffers variables types) 0) (let e : count ≡ count - 0 = omega arith in e)) refl refl
-        (so-far-none chunk edits (placeSections (textOracle chunk edits) sm5) (recordsFrom (bufferHeld buffers variables types) 0 count) at₀ (poolsAt types s₀ 0 0) out₀);
+        so-far-like chunk edits (placeSections (textOracle chunk edits) sm5) (ap (recordsFrom (bufferInTable buffers variables types) 0) (let e : count ≡ count - 0 = omega arith in e)) refl refl
+        (so-far-none chunk edits (placeSections (textOracle chunk edits) sm5) (recordsFrom (bufferInTable buffers variables types) 0 count) at₀ (poolsAt types s₀ 0 0) out₀);
     moved = moved-none 0 0 0 0 ready;
     names-kept = λ x. refl;
     near = omega arith;
@@ -78,18 +78,18 @@ module _ (chunk edits buffers variables types : List ℕ) (sm5 : Bool) (count at
         record {
           ran =
               so-far-all chunk edits (placeSections (textOracle chunk edits) sm5) (each-section chunk edits sm5)
-              (so-far-like chunk edits (placeSections (textOracle chunk edits) sm5) (records-done (bufferHeld buffers variables types) i count done) refl (ap (recordsFrom (bufferSection buffers s) 0) e) (so-far .so-far));
+              (so-far-like chunk edits (placeSections (textOracle chunk edits) sm5) (records-done (bufferInTable buffers variables types) i count done) refl (ap (recordsFrom (bufferSection buffers s) 0) e) (so-far .so-far));
           next = so-far .root ∙ ap (λ (x : ℕ). rootAt types (firstVariable buffers x)) e;
           moved = subst (λ x. Moved chunk edits 0 (firstVariable buffers x) 0 k 0 n 0 roots s₀ s) e (so-far .moved);
           names-kept = so-far .names-kept;
           near = omega (arith, so-far .near, e);
         }
 
-    module _ (within : Within 0 0 0 0 (at₀ + 200000) s₀) (fit : Fit buffers types count) (few : count ≤ bufferRoom) (more : i < count) where
+    module _ (within : CursorBounds 0 0 0 0 (at₀ + 200000) s₀) (fit : Fit buffers types count) (few : count ≤ bufferRoom) (more : i < count) where
       -- There is room for one more.
-      pub sections-within : Within j k n roots (at + 100000) s
+      pub sections-within : CursorBounds j k n roots (at + 100000) s
       sections-within =
-          subst (λ x. Within x k n roots (at + 100000) s) (zero-add (firstVariable buffers i) ∙ sym (so-far .first)) (within-moved within (so-far .moved) (omega (arith, so-far .near, few, more)))
+          subst (λ x. CursorBounds x k n roots (at + 100000) s) (zero-add (firstVariable buffers i) ∙ sym (so-far .first)) (within-moved within (so-far .moved) (omega (arith, so-far .near, few, more)))
 
       pub sections-fit : Fit buffers types (i + 1)
       sections-fit = fit-below (i + 1) (omega arith) fit
@@ -107,7 +107,7 @@ module _ (chunk edits buffers variables types : List ℕ) (sm5 : Bool) (count at
         so-far =
             so-far-like chunk edits (placeSections (textOracle chunk edits) sm5) refl refl stored
             (so-far-more chunk edits (placeSections (textOracle chunk edits) sm5) (each-section chunk edits sm5)
-            (so-far-like chunk edits (placeSections (textOracle chunk edits) sm5) (records-left (bufferHeld buffers variables types) i count more) refl refl (so-far .so-far))
+            (so-far-like chunk edits (placeSections (textOracle chunk edits) sm5) (records-left (bufferInTable buffers variables types) i count more) refl refl (so-far .so-far))
             (placed .ran));
         moved =
             subst (λ x. Moved chunk edits 0 x 0 (r .next) 0 (r .n) 0 (r .roots) s₀ s₁) (first-next buffers i)

@@ -13,7 +13,7 @@ use Rattle.reflection.specs.declared.Text.{Text}
 use Rattle.reflection.specs.Reflection.{CBufferVariable, CBufferDef, ResourceDef, isSm5, isWide}
 use Rattle.reflection.specs.Strides.{bufferStride}
 use Rattle.writing.specs.Step.{Pools, pools, paddingAt}
-use Rattle.writing.specs.Records.{VariableOffsets, Section, rows, variableWords, variableSize, bufferWords, bindingWords, bindingSize, headerWords, headerSize}
+use Rattle.writing.specs.Records.{VariableOffsets, Section, rows, variableWordsInChunk, variableSize, bufferWordsInChunk, bindingWordsInChunk, bindingSize, headerWordsInChunk, headerWordCount}
 use Rattle.writing.specs.Layout.{zip, placeOuterName, placeInnerName, placeDefault, placeType, placeVariable, placeVariables, placeSection, placeSections, placeOuterNames, placeBufferParts, placeBuffers, placeBody, placeChunk, layout}
 use Rattle.writing.proofs.Sizes.{rows-length, variable-words-length, buffer-words-length, binding-words-length, header-words-length, variables-length, outer-names-length, buffer-parts-length}
 use Rattle.placing.specs.Ran.{Ran, textOracle, cellBytes}
@@ -51,19 +51,19 @@ module _ (chunk edits : List ℕ) (sm5 : Bool) where
   pub ran-section : (b : CBufferDef Text Text) {at start to end : ℕ} {ps ps′ : Pools Text Text} {out out₁ out₂ out₃ : List ℕ} {os : List VariableOffsets}
       → Put out at (replicate (paddingAt at) 0xab) out₁ start
       → Ran chunk edits (placeVariables (textOracle chunk edits) sm5 (eqb (b .cb-type) 0) (b .variables)) (start + 4 * (length (b .variables) * variableSize sm5)) ps out₁ out₂ os to ps′
-      → Put out₂ start (joinedBytes (rows (variableWords sm5) (b .variables) os)) out₃ end
+      → Put out₂ start (joinedBytes (rows (variableWordsInChunk sm5) (b .variables) os)) out₃ end
       → Ran chunk edits (placeSection (textOracle chunk edits) sm5 b) at ps out out₃ (record { start = start; offsets = os }) to ps′
   unfolding placeSection
   ran-section b {start = start} {ps = ps} padded placed written =
       ran-bind chunk edits _ (ran-pad chunk edits padded)
-      (ran-bind chunk edits _ (ran-ahead chunk edits (length (b .variables) * variableSize sm5) (rows (variableWords sm5) (b .variables)) sized placed written) (ran-return chunk edits _ _ _ _))
+      (ran-bind chunk edits _ (ran-ahead chunk edits (length (b .variables) * variableSize sm5) (rows (variableWordsInChunk sm5) (b .variables)) sized placed written) (ran-return chunk edits _ _ _ _))
     where
       share : Bool
       share = eqb (b .cb-type) 0
 
-      sized : length (rows (variableWords sm5) (b .variables) (placeVariables (textOracle chunk edits) sm5 share (b .variables) (start + 4 * (length (b .variables) * variableSize sm5)) ps .result))
+      sized : length (rows (variableWordsInChunk sm5) (b .variables) (placeVariables (textOracle chunk edits) sm5 share (b .variables) (start + 4 * (length (b .variables) * variableSize sm5)) ps .result))
           ≡ length (b .variables) * variableSize sm5
-      sized = rows-length (variableWords sm5) (variableSize sm5) (variable-words-length sm5) (b .variables) _ (variables-length (textOracle chunk edits) sm5 share (b .variables) _ ps)
+      sized = rows-length (variableWordsInChunk sm5) (variableSize sm5) (variable-words-length sm5) (b .variables) _ (variables-length (textOracle chunk edits) sm5 share (b .variables) _ ps)
 
   pub ran-no-buffers : (at : ℕ) (ps : Pools Text Text) (out : List ℕ) → Ran chunk edits (placeBuffers (textOracle chunk edits) sm5 []) at ps out out (0, []) at ps
   unfolding placeBuffers
@@ -74,43 +74,43 @@ module _ (chunk edits : List ℕ) (sm5 : Bool) where
       → Put out at (replicate (paddingAt at) 0xab) out₁ start
       → Ran chunk edits (placeOuterNames (textOracle chunk edits) (map (λ b. b .name) (b ∷ bs))) (start + 4 * (length (b ∷ bs) * (bufferStride / 4))) ps out₁ out₂ names mid ps₁
       → Ran chunk edits (placeSections (textOracle chunk edits) sm5 (b ∷ bs)) mid ps₁ out₂ out₃ sections to ps₂
-      → Put out₃ start (joinedBytes (rows bufferWords (b ∷ bs) (zip names sections))) out₄ end
+      → Put out₃ start (joinedBytes (rows bufferWordsInChunk (b ∷ bs) (zip names sections))) out₄ end
       → Ran chunk edits (placeBuffers (textOracle chunk edits) sm5 (b ∷ bs)) at ps out out₄ (start, zip names sections) to ps₂
   unfolding placeBuffers placeBufferParts
   ran-buffers b bs {start = start} {ps = ps} padded named placed written =
       ran-bind chunk edits _ (ran-pad chunk edits padded)
-      (ran-bind chunk edits _ (ran-ahead chunk edits (length (b ∷ bs) * (bufferStride / 4)) (rows bufferWords (b ∷ bs)) sized
+      (ran-bind chunk edits _ (ran-ahead chunk edits (length (b ∷ bs) * (bufferStride / 4)) (rows bufferWordsInChunk (b ∷ bs)) sized
       (ran-bind chunk edits _ named (ran-bind chunk edits _ placed (ran-return chunk edits _ _ _ _))) written)
       (ran-return chunk edits _ _ _ _))
     where
-      sized : length (rows bufferWords (b ∷ bs) (placeBufferParts (textOracle chunk edits) sm5 (b ∷ bs) (start + 4 * (length (b ∷ bs) * (bufferStride / 4))) ps .result)) ≡ length (b ∷ bs) * (bufferStride / 4)
-      sized = rows-length bufferWords (bufferStride / 4) buffer-words-length (b ∷ bs) _ (buffer-parts-length (textOracle chunk edits) sm5 (b ∷ bs) _ ps)
+      sized : length (rows bufferWordsInChunk (b ∷ bs) (placeBufferParts (textOracle chunk edits) sm5 (b ∷ bs) (start + 4 * (length (b ∷ bs) * (bufferStride / 4))) ps .result)) ≡ length (b ∷ bs) * (bufferStride / 4)
+      sized = rows-length bufferWordsInChunk (bufferStride / 4) buffer-words-length (b ∷ bs) _ (buffer-parts-length (textOracle chunk edits) sm5 (b ∷ bs) _ ps)
 
 -- The chunk: the bindings' names from behind the room for the header and the bindings' records, those records into their room, the buffers, the creator, padding,
 -- and the header into its room.
 pub ran-chunk : (chunk edits : List ℕ) (r : ResourceDef Text Text) {at₁ at₂ at₃ at₄ creator e₁ e₂ : ℕ} {ps₁ ps₂ ps₃ : Pools Text Text} {out out₁ out₂ out₃ out₄ out₅ out₆ names : List ℕ} {buffers : ℕ × List (ℕ × Section)}
     → Ran chunk edits (placeOuterNames (textOracle chunk edits) (map (λ b. b .name) (r .bindings)))
-    (0 + 4 * headerSize (isSm5 (r .rd11)) + 4 * (length (r .bindings) * bindingSize (isWide (r .rd11)))) (pools [] [] [] [] []) out out₁ names at₁ ps₁
-    → Put out₁ (0 + 4 * headerSize (isSm5 (r .rd11))) (joinedBytes (rows (bindingWords (isWide (r .rd11))) (r .bindings) names)) out₂ e₁
+    (0 + 4 * headerWordCount (isSm5 (r .rd11)) + 4 * (length (r .bindings) * bindingSize (isWide (r .rd11)))) (pools [] [] [] [] []) out out₁ names at₁ ps₁
+    → Put out₁ (0 + 4 * headerWordCount (isSm5 (r .rd11))) (joinedBytes (rows (bindingWordsInChunk (isWide (r .rd11))) (r .bindings) names)) out₂ e₁
     → Ran chunk edits (placeBuffers (textOracle chunk edits) (isSm5 (r .rd11)) (r .constant-buffers)) at₁ ps₁ out₂ out₃ buffers at₂ ps₂
     → Ran chunk edits (placeInnerName (textOracle chunk edits) (r .creator)) at₂ ps₂ out₃ out₄ creator at₃ ps₃
     → Put out₄ at₃ (replicate (paddingAt at₃) 0xab) out₅ at₄
-    → Put out₅ 0 (joinedBytes (headerWords r (record { buffers = buffers .0; sections = buffers .1; creator = creator }))) out₆ e₂
+    → Put out₅ 0 (joinedBytes (headerWordsInChunk r (record { buffers = buffers .0; sections = buffers .1; creator = creator }))) out₆ e₂
     → Put out 0 (cellBytes chunk edits (layout (textOracle chunk edits) r .cells)) out₆ at₄ ⊎ TooLong (cellBytes chunk edits (layout (textOracle chunk edits) r .cells)) out out₆ at₄
 unfolding layout placeChunk placeBody
 ran-chunk chunk edits r named bound buffered created padded headed =
     ⊎-elim (λ p. inl (p .put)) (λ p. inr (record { reached = p .reached; defined = omega (arith, p .defined, length-cell-bytes chunk edits (layout (textOracle chunk edits) r .cells)); long = p .long }))
-    (ran-ahead chunk edits (headerSize (isSm5 (r .rd11))) (headerWords r) (header-words-length r _)
-    (ran-bind chunk edits _ (ran-ahead chunk edits (length (r .bindings) * bindingSize (isWide (r .rd11))) (rows (bindingWords (isWide (r .rd11))) (r .bindings)) sized named bound)
+    (ran-ahead chunk edits (headerWordCount (isSm5 (r .rd11))) (headerWordsInChunk r) (header-words-length r _)
+    (ran-bind chunk edits _ (ran-ahead chunk edits (length (r .bindings) * bindingSize (isWide (r .rd11))) (rows (bindingWordsInChunk (isWide (r .rd11))) (r .bindings)) sized named bound)
     (ran-bind chunk edits _ buffered (ran-bind chunk edits _ created (ran-bind chunk edits _ (ran-pad chunk edits padded) (ran-return chunk edits _ _ _ _)))))
     headed
     .known)
   where
     names-at : ℕ
-    names-at = 0 + 4 * headerSize (isSm5 (r .rd11)) + 4 * (length (r .bindings) * bindingSize (isWide (r .rd11)))
+    names-at = 0 + 4 * headerWordCount (isSm5 (r .rd11)) + 4 * (length (r .bindings) * bindingSize (isWide (r .rd11)))
 
-    sized : length (rows (bindingWords (isWide (r .rd11))) (r .bindings) (placeOuterNames (textOracle chunk edits) (map (λ b. b .name) (r .bindings)) names-at (pools [] [] [] [] []) .result))
+    sized : length (rows (bindingWordsInChunk (isWide (r .rd11))) (r .bindings) (placeOuterNames (textOracle chunk edits) (map (λ b. b .name) (r .bindings)) names-at (pools [] [] [] [] []) .result))
         ≡ length (r .bindings) * bindingSize (isWide (r .rd11))
     sized =
-        rows-length (bindingWords (isWide (r .rd11))) (bindingSize (isWide (r .rd11))) (binding-words-length (isWide (r .rd11))) (r .bindings) _
+        rows-length (bindingWordsInChunk (isWide (r .rd11))) (bindingSize (isWide (r .rd11))) (binding-words-length (isWide (r .rd11))) (r .bindings) _
         (outer-names-length (textOracle chunk edits) (map (λ b. b .name) (r .bindings)) names-at (pools [] [] [] [] []) ∙ length-map (r .bindings) (λ b. b .name))

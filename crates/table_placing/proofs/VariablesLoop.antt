@@ -9,20 +9,20 @@ use native.Mathlib.Omega.{arith}
 use lib.ListN.{length, getD}
 use Rattle.reflection.specs.Nodes.{typeLevels}
 use Rattle.reflection.specs.Records.{variableAt}
-use Rattle.reflection.specs.Decode.{recordsFrom, variableFrom}
+use Rattle.reflection.specs.Decode.{recordsFrom, variableFromTable}
 use Rattle.reflection.specs.Limits.{typeRoom, variableRoom}
 use Rattle.writing.specs.Layout.{placeVariable, placeVariables}
 use Rattle.placing.specs.Ran.{textOracle}
-use Rattle.placing.specs.Scratch.{variableOffsetsWidth, variablesStart, buffersStart, Ready}
+use Rattle.placing.specs.Scratch.{variableOffsetsWidth, variablesStart, buffersStart, PoolsReady}
 use Rattle.placing.proofs.Runs.{ran-long, ran-step}
 use Rattle.type_equality.specs.Trees.{treeAt, typeTree}
 use Rattle.type_equality.proofs.Trees.{tree-up}
 use Rattle.type_placing.specs.Room.{nodeBytes}
 use Rattle.table_placing.specs.declared.Reached.{Reached}
-use Rattle.table_placing.specs.Held.{rootAt, variableHeld}
+use Rattle.table_placing.specs.TableReflection.{rootAt, variableInTable}
 use Rattle.table_placing.specs.Offsets.{variableOffsets}
 use Rattle.table_placing.specs.Placed.{poolsAt}
-use Rattle.table_placing.specs.Moved.{Within, Moved, VariablePlaced, VariablesPlaced}
+use Rattle.table_placing.specs.Moved.{CursorBounds, Moved, VariablePlaced, VariablesPlaced}
 use Rattle.table_placing.proofs.Lists.{records-more, records-left-from, records-done-from}
 use Rattle.table_placing.proofs.Many.{SoFar, so-far-none, so-far-like, so-far-more, so-far-all}
 use Rattle.table_placing.proofs.Steps.{each-variable}
@@ -37,7 +37,7 @@ pub root-next : (types : List ℕ) (j : ℕ) → treeAt types typeLevels (rootAt
 unfolding rootAt
 root-next types j = ap (rootAt types) (sym (add-one j))
 
-pub moved-none : {chunk edits : List ℕ} (j k n roots : ℕ) {s : List ℕ} → Ready chunk edits s → Moved chunk edits j 0 k k n n roots roots s s
+pub moved-none : {chunk edits : List ℕ} (j k n roots : ℕ) {s : List ℕ} → PoolsReady chunk edits s → Moved chunk edits j 0 k k n n roots roots s s
 moved-none j k n roots ready = record {
   ready = ready;
   long = refl;
@@ -72,8 +72,8 @@ offsets-kept p x before =
     λ i. record { name = name i; type = type i; default = default i }
 
 -- What was within bounds stays so.
-pub within-moved : {chunk edits : List ℕ} {j m k k′ n n′ roots roots′ at at′ : ℕ} {s s′ : List ℕ} → Within j k n roots at s → Moved chunk edits j m k k′ n n′ roots roots′ s s′
-    → at′ + k * nodeBytes ≤ at + k′ * nodeBytes → Within (j + m) k′ n′ roots′ at′ s′
+pub within-moved : {chunk edits : List ℕ} {j m k k′ n n′ roots roots′ at at′ : ℕ} {s s′ : List ℕ} → CursorBounds j k n roots at s → Moved chunk edits j m k k′ n n′ roots roots′ s s′
+    → at′ + k * nodeBytes ≤ at + k′ * nodeBytes → CursorBounds (j + m) k′ n′ roots′ at′ s′
 within-moved w p near = record {
   cursor = omega (arith, w .cursor, near);
   names = omega (arith, w .names, p .names);
@@ -86,23 +86,23 @@ within-moved w p near = record {
 pub record VariablesSoFar (chunk edits variables types : List ℕ) (sm5 share : Bool) (j count k₀ n₀ roots₀ at₀ : ℕ) (s₀ out₀ s out : List ℕ) (at k n roots i : ℕ) : Type 0 where
   pub within : i ≤ count
   pub root : k ≡ rootAt types (j + i)
-  pub so-far : SoFar chunk edits (placeVariables (textOracle chunk edits) sm5 share) (recordsFrom (variableHeld variables types) j count) at₀ (poolsAt types s₀ roots₀ n₀) out₀
-      (recordsFrom (variableHeld variables types) (j + i) (count - i)) at (poolsAt types s roots n) out (recordsFrom (variableOffsets s) j i)
+  pub so-far : SoFar chunk edits (placeVariables (textOracle chunk edits) sm5 share) (recordsFrom (variableInTable variables types) j count) at₀ (poolsAt types s₀ roots₀ n₀) out₀
+      (recordsFrom (variableInTable variables types) (j + i) (count - i)) at (poolsAt types s roots n) out (recordsFrom (variableOffsets s) j i)
   pub moved : Moved chunk edits j i k₀ k n₀ n roots₀ roots s₀ s
   pub later : (x : ℕ) → buffersStart ≤ x → getD s x 0 ≡ getD s₀ x 0
   pub near : at + k₀ * nodeBytes + i * 1900 ≤ at₀ + k * nodeBytes
   pub out-long : length out ≡ length out₀
 
 module _ (chunk edits variables types : List ℕ) (sm5 share : Bool) (j count k₀ n₀ roots₀ at₀ : ℕ) (s₀ out₀ : List ℕ) where
-  pub variables-none : Ready chunk edits s₀ → k₀ ≡ rootAt types j → VariablesSoFar chunk edits variables types sm5 share j count k₀ n₀ roots₀ at₀ s₀ out₀ s₀ out₀ at₀ k₀ n₀ roots₀ 0
+  pub variables-none : PoolsReady chunk edits s₀ → k₀ ≡ rootAt types j → VariablesSoFar chunk edits variables types sm5 share j count k₀ n₀ roots₀ at₀ s₀ out₀ s₀ out₀ at₀ k₀ n₀ roots₀ 0
   unfolding recordsFrom
   variables-none ready root = record {
     within = omega arith;
     root = root ∙ ap (rootAt types) (sym (add-zero j));
     so-far =
         so-far-like chunk edits (placeVariables (textOracle chunk edits) sm5 share)
-        (let a = sym (add-zero j) in let b : count ≡ count - 0 = omega arith in λ z. recordsFrom (variableHeld variables types) (a z) (b z)) refl refl
-        (so-far-none chunk edits (placeVariables (textOracle chunk edits) sm5 share) (recordsFrom (variableHeld variables types) j count) at₀ (poolsAt types s₀ roots₀ n₀) out₀);
+        (let a = sym (add-zero j) in let b : count ≡ count - 0 = omega arith in λ z. recordsFrom (variableInTable variables types) (a z) (b z)) refl refl
+        (so-far-none chunk edits (placeVariables (textOracle chunk edits) sm5 share) (recordsFrom (variableInTable variables types) j count) at₀ (poolsAt types s₀ roots₀ n₀) out₀);
     moved = moved-none j k₀ n₀ roots₀ ready;
     later = λ x low. refl;
     near = omega arith;
@@ -116,7 +116,7 @@ module _ (chunk edits variables types : List ℕ) (sm5 share : Bool) (j count k�
         record {
           ran =
               so-far-all chunk edits (placeVariables (textOracle chunk edits) sm5 share) (each-variable chunk edits sm5 share)
-              (so-far-like chunk edits (placeVariables (textOracle chunk edits) sm5 share) (records-done-from (variableHeld variables types) j i count done) refl (ap (recordsFrom (variableOffsets s) j) e)
+              (so-far-like chunk edits (placeVariables (textOracle chunk edits) sm5 share) (records-done-from (variableInTable variables types) j i count done) refl (ap (recordsFrom (variableOffsets s) j) e)
               (so-far .so-far));
           next = so-far .root ∙ ap (λ (x : ℕ). rootAt types (j + x)) e;
           moved = subst (λ m. Moved chunk edits j m k₀ k n₀ n roots₀ roots s₀ s) e (so-far .moved);
@@ -124,9 +124,9 @@ module _ (chunk edits variables types : List ℕ) (sm5 share : Bool) (j count k�
           near = omega (arith, so-far .near, e);
         }
 
-    module _ (within : Within j k₀ n₀ roots₀ at₀ s₀) (few-nodes : rootAt types (j + count) ≤ typeRoom) (few : j + count ≤ variableRoom) (more : i < count) where
+    module _ (within : CursorBounds j k₀ n₀ roots₀ at₀ s₀) (few-nodes : rootAt types (j + count) ≤ typeRoom) (few : j + count ≤ variableRoom) (more : i < count) where
       -- There is room for one more.
-      pub variables-within : Within (j + i) k n roots at s
+      pub variables-within : CursorBounds (j + i) k n roots at s
       variables-within = within-moved within (so-far .moved) (omega (arith, so-far .near))
 
       pub variables-fit : treeAt types typeLevels k .next ≤ typeRoom
@@ -141,15 +141,15 @@ module _ (chunk edits variables types : List ℕ) (sm5 share : Bool) (j count k�
 
       pub variables-more : {s₁ out₁ : List ℕ} {r : Reached} → VariablePlaced chunk edits variables types sm5 share (j + i) k n roots at s s₁ out out₁ r
           → VariablesSoFar chunk edits variables types sm5 share j count k₀ n₀ roots₀ at₀ s₀ out₀ s₁ out₁ (r .at) (r .next) (r .n) (r .roots) (i + 1)
-      unfolding variableHeld
+      unfolding variableInTable
       variables-more {s₁} {out₁} {r} placed = record {
         within = omega arith;
         root = placed .next ∙ ap (λ (x : ℕ). treeAt types typeLevels x .next) (so-far .root) ∙ root-next types (j + i) ∙ ap (rootAt types) (let e : j + i + 1 ≡ j + (i + 1) = omega arith in e);
         so-far =
             so-far-like chunk edits (placeVariables (textOracle chunk edits) sm5 share) refl refl stored
             (so-far-more chunk edits (placeVariables (textOracle chunk edits) sm5 share) (each-variable chunk edits sm5 share)
-            (so-far-like chunk edits (placeVariables (textOracle chunk edits) sm5 share) (records-left-from (variableHeld variables types) j i count more) refl refl (so-far .so-far))
-            (ran-step chunk edits (ap (λ (x : ℕ). placeVariable (textOracle chunk edits) sm5 share (variableFrom (variableAt variables (j + i)) (typeTree types typeLevels x))) (so-far .root)) (placed .ran)));
+            (so-far-like chunk edits (placeVariables (textOracle chunk edits) sm5 share) (records-left-from (variableInTable variables types) j i count more) refl refl (so-far .so-far))
+            (ran-step chunk edits (ap (λ (x : ℕ). placeVariable (textOracle chunk edits) sm5 share (variableFromTable (variableAt variables (j + i)) (typeTree types typeLevels x))) (so-far .root)) (placed .ran)));
         moved = moved-then (so-far .moved) (placed .moved);
         later = λ x low. placed .later x low ∙ so-far .later x low;
         near = omega (arith, so-far .near, placed .near);

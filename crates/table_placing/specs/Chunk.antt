@@ -1,3 +1,4 @@
+-- Vocabulary of internal contracts: no contract of an exported function and no demand cites it.
 -- What writing a chunk does: the scratch's pools begin empty, and the output then holds the canonical form of what the tables hold, or that is too long.
 use mathlib.Core.Path.{_≡_}
 use mathlib.Core.List.{List, []}
@@ -11,14 +12,14 @@ use Rattle.writing.specs.Step.{pools}
 use Rattle.writing.specs.Canonical.{canonical}
 use Rattle.text_pool.specs.Pool.{entryCount}
 use Rattle.placing.specs.Ran.{chunkLimit}
-use Rattle.placing.specs.Scratch.{outerPool, innerPool, defaultPool, Ready}
-use Rattle.table_placing.specs.Held.{reflectionHeld}
+use Rattle.placing.specs.Scratch.{outerPool, innerPool, defaultPool, PoolsReady}
+use Rattle.table_placing.specs.TableReflection.{reflectionInTables}
 use Rattle.table_placing.specs.Placed.{poolsAt}
 
 -- The pools of texts are in order and empty, and no type may be shared yet.
 pub record PoolsBegun (s s′ : List ℕ) : Type 0 where
   pub long : length s′ ≡ length s
-  pub ready : (chunk edits : List ℕ) → Ready chunk edits s′
+  pub ready : (chunk edits : List ℕ) → PoolsReady chunk edits s′
   pub none : (types : List ℕ) → poolsAt types s′ 0 0 ≡ pools [] [] [] [] []
   pub no-outer : entryCount (outerPool s′) ≡ 0
   pub no-inner : entryCount (innerPool s′) ≡ 0
@@ -32,6 +33,6 @@ pub record TooLong (bytes out out′ : List ℕ) (r : ℕ) : Type 0 where
 
 -- The chunk was written, or it is too long.
 pub record ChunkWritten (chunk edits : List ℕ) (h : Header) (bindings buffers variables types s s′ out out′ : List ℕ) (r : ℕ) : Type 0 where
-  pub written : Put out 0 (canonical (contents chunk edits (reflectionHeld h bindings buffers variables types))) out′ r
-      ⊎ TooLong (canonical (contents chunk edits (reflectionHeld h bindings buffers variables types))) out out′ r
+  pub written : Put out 0 (canonical (contents chunk edits (reflectionInTables h bindings buffers variables types))) out′ r
+      ⊎ TooLong (canonical (contents chunk edits (reflectionInTables h bindings buffers variables types))) out out′ r
   pub long : length s′ ≡ length s

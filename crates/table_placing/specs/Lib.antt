@@ -1,4 +1,4 @@
-pub mod Held
+pub mod TableReflection
 pub mod Offsets
 pub mod Placed
 pub mod Moved

@@ -1,3 +1,4 @@
+-- Vocabulary of internal contracts: no contract of an exported function and no demand cites it.
 -- Where names, types, defaults and sections were placed, kept in the scratch until the records that hold the offsets are written, and the words of those
 -- records. For variable j its name, type and default. For buffer i its name and where its variables' records begin. For binding i its name.
 use mathlib.Core.Bool.{Bool}
@@ -7,10 +8,10 @@ use lib.ListN.{getD}
 use Rattle.reflection.specs.declared.ResourceDef.{ResourceDef as Header}
 use Rattle.reflection.specs.Reflection.{isSm5}
 use Rattle.reflection.specs.Records.{bindingAt, bufferAt, variableAt}
-use Rattle.reflection.specs.Decode.{recordsFrom, bindingFrom, rd11From}
-use Rattle.writing.specs.Records.{VariableOffsets, Section, wordsIf, bindingWords, rd11Words, headerSize}
+use Rattle.reflection.specs.Decode.{recordsFrom, bindingFromTable, rd11FromHeader}
+use Rattle.writing.specs.Records.{VariableOffsets, Section, wordsIf, bindingWordsInChunk, rd11Words, headerWordCount}
 use Rattle.placing.specs.Scratch.{variableOffsetsWidth, bufferOffsetsWidth, variablesStart, buffersStart, bindingsStart}
-use Rattle.table_placing.specs.Held.{firstVariable, countAt}
+use Rattle.table_placing.specs.TableReflection.{firstVariable, countAt}
 
 unfoldable pub variableOffsets : List ℕ → ℕ → VariableOffsets
 variableOffsets s j = record {
@@ -50,8 +51,8 @@ bufferRow buffers s i =
     bufferName s i ∷ b .«variable_count» ∷ sectionStart s i ∷ b .size ∷ b .flags ∷ b .«cb_type» ∷ []
 
 unfoldable pub bindingRow : Bool → List ℕ → List ℕ → ℕ → List ℕ
-bindingRow wide bindings s i = bindingWords wide (bindingFrom (bindingAt bindings i)) (bindingName s i)
+bindingRow wide bindings s i = bindingWordsInChunk wide (bindingFromTable (bindingAt bindings i)) (bindingName s i)
 
 unfoldable pub headerRow : Header → ℕ → ℕ → List ℕ
 headerRow h buffers creator =
-    h .«buffer_count» ∷ buffers ∷ h .«binding_count» ∷ 4 * headerSize (isSm5 (rd11From h)) ∷ h .«target_version» ∷ h .«compile_flags» ∷ creator ∷ rd11Words (rd11From h)
+    h .«buffer_count» ∷ buffers ∷ h .«binding_count» ∷ 4 * headerWordCount (isSm5 (rd11FromHeader h)) ∷ h .«target_version» ∷ h .«compile_flags» ∷ creator ∷ rd11Words (rd11FromHeader h)

@@ -1,3 +1,4 @@
+-- Vocabulary of internal contracts: no contract of an exported function and no demand cites it.
 -- What the functions of this crate do: the step that ran, what the scratch then holds, and how far pools and cursor went.
 use mathlib.Core.Path.{_≡_}
 use mathlib.Core.List.{List}
@@ -11,7 +12,7 @@ use Rattle.writing.specs.Step.{Pools}
 use Rattle.writing.specs.Layout.{placeOuterNames}
 use Rattle.text_pool.specs.Pool.{entryCount}
 use Rattle.placing.specs.Ran.{Ran, textOracle}
-use Rattle.placing.specs.Scratch.{innerStart, rootTypesStart, variablesStart, scratchSize, outerPool, typesFrom, poolsIn, Ready}
+use Rattle.placing.specs.Scratch.{innerStart, rootTypesStart, variablesStart, scratchSize, outerPool, typesFrom, poolsIn, PoolsReady}
 use Rattle.placing.specs.Pooling.{farthestOffset, placedLimit}
 use Rattle.placing.specs.InScratch.{outerRoom}
 use Rattle.type_equality.specs.Trees.{typeTree}
@@ -45,7 +46,7 @@ pub record NamesRoom (n start step at : ℕ) (s : List ℕ) : Type 0 where
 pub record NamesPlaced (chunk edits : List ℕ) (names : ℕ → Text) (n start step at : ℕ) (s s′ out out′ : List ℕ) (to : ℕ) : Type 0 where
   pub ran : (types : List ℕ)
       → Ran chunk edits (placeOuterNames (textOracle chunk edits) (recordsFrom names 0 n)) at (poolsAt types s 0 0) out out′ (recordsFrom (storedAt start step s′) 0 n) to (poolsAt types s′ 0 0)
-  pub ready : Ready chunk edits s′
+  pub ready : PoolsReady chunk edits s′
   pub same : Same innerStart start s s′
   pub entries : entryCount (outerPool s′) ≤ entryCount (outerPool s) + n
   pub near : to ≤ at + n * placedLimit

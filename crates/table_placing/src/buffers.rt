@@ -4,10 +4,10 @@ ghost use mathlib.Core.Bool.{true};
 ghost use Prim.Native.Nat.{_+_, _*_, _≤_, _<_};
 ghost use Rattle.reflection.specs.Limits.{bufferRoom};
 ghost use Rattle.writing.specs.Records.{variableSize};
-ghost use Rattle.placing.specs.Scratch.{Ready};
+ghost use Rattle.placing.specs.Scratch.{PoolsReady};
 ghost use Rattle.placing.specs.Pooling.{Short};
-ghost use Rattle.table_placing.specs.Held.{rootAt, firstVariable, countAt};
-ghost use Rattle.table_placing.specs.Moved.{Within};
+ghost use Rattle.table_placing.specs.TableReflection.{rootAt, firstVariable, countAt};
+ghost use Rattle.table_placing.specs.Moved.{CursorBounds};
 ghost use Rattle.table_placing.specs.Sections.{Fit, SectionPlaced, SectionsPlaced, Unplaced, BuffersPlaced};
 use crate::Reached;
 use crate::names::place_outer_names;
@@ -62,8 +62,8 @@ fn place_section<'a>(
     sm5: bool,
 ) -> Reached
     requires { ⌜ Short (now chunk) (now edits) ⌝ }
-    requires { ⌜ Ready (now chunk) (now edits) (now s) ⌝ }
-    requires { ⌜ Within j k n roots (at + 100000) (now s) ⌝ }
+    requires { ⌜ PoolsReady (now chunk) (now edits) (now s) ⌝ }
+    requires { ⌜ CursorBounds j k n roots (at + 100000) (now s) ⌝ }
     requires { ⌜ (j ≡ firstVariable (now buffers) i) × (k ≡ rootAt (now types) (firstVariable (now buffers) i)) ⌝ }
     requires { ⌜ Fit (now buffers) (now types) (i + 1) ⌝ }
     requires { ⌜ i < bufferRoom ⌝ }
@@ -107,8 +107,8 @@ fn place_sections<'a>(
     sm5: bool,
 ) -> Reached
     requires { ⌜ Short (now chunk) (now edits) ⌝ }
-    requires { ⌜ Ready (now chunk) (now edits) (now s) ⌝ }
-    requires { ⌜ Within 0 0 0 0 (at + 200000) (now s) ⌝ }
+    requires { ⌜ PoolsReady (now chunk) (now edits) (now s) ⌝ }
+    requires { ⌜ CursorBounds 0 0 0 0 (at + 200000) (now s) ⌝ }
     requires { ⌜ Fit (now buffers) (now types) count ⌝ }
     requires { ⌜ count ≤ bufferRoom ⌝ }
     ensures { λ r. ⌜ SectionsPlaced (now (chunk .entry)) (now (edits .entry)) (now (buffers .entry)) (now (variables .entry)) (now (types .entry)) sm5 count at (now (s .entry)) (now (s .exit)) (now (out .entry)) (now (out .exit)) r ⌝ }
@@ -166,7 +166,7 @@ pub fn place_buffers<'a>(
     sm5: bool,
 ) -> Spot
     requires { ⌜ Short (now chunk) (now edits) ⌝ }
-    requires { ⌜ Ready (now chunk) (now edits) (now s) ⌝ }
+    requires { ⌜ PoolsReady (now chunk) (now edits) (now s) ⌝ }
     requires { ⌜ Unplaced count at (now s) ⌝ }
     requires { ⌜ Fit (now buffers) (now types) count ⌝ }
     requires { ⌜ count ≤ bufferRoom ⌝ }

@@ -3,10 +3,10 @@ ghost use mathlib.Core.Path.{_≡_};
 ghost use mathlib.Core.Bool.{true};
 ghost use Prim.Native.Nat.{_+_, _*_, _≤_};
 ghost use lib.ListN.{length};
-ghost use Rattle.writing.specs.Records.{bindingSize, headerSize};
+ghost use Rattle.writing.specs.Records.{bindingSize, headerWordCount};
 ghost use Rattle.placing.specs.Scratch.{scratchSize};
 ghost use Rattle.placing.specs.Pooling.{Short};
-ghost use Rattle.table_placing.specs.Held.{Sized};
+ghost use Rattle.table_placing.specs.TableReflection.{Sized};
 ghost use Rattle.table_placing.specs.Chunk.{PoolsBegun, ChunkWritten};
 use crate::buffers::place_buffers;
 use crate::names::place_outer_names;
@@ -39,7 +39,7 @@ fn binding_size(wide: bool) -> usize
 }
 
 fn header_size(sm5: bool) -> usize
-    ensures { λ r. ⌜ (r ≡ headerSize sm5) × (r ≤ headerSize true) ⌝ }
+    ensures { λ r. ⌜ (r ≡ headerWordCount sm5) × (r ≤ headerWordCount true) ⌝ }
 {
     if sm5 { RD11_HEADER_SIZE } else { HEADER_SIZE }
 }

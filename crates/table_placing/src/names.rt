@@ -1,7 +1,7 @@
 // The names of bindings and buffers: they share one pool of their own.
 ghost use mathlib.Core.Path.{_≡_};
 ghost use Prim.Native.Nat.{_+_, _≤_};
-ghost use Rattle.placing.specs.Scratch.{Ready};
+ghost use Rattle.placing.specs.Scratch.{PoolsReady};
 ghost use Rattle.placing.specs.Pooling.{Short};
 ghost use Rattle.table_placing.specs.Placed.{nameAt, NamesRoom, NamesPlaced};
 use reflection::Text;
@@ -36,7 +36,7 @@ pub fn place_outer_names<'a>(
     at: usize,
 ) -> usize
     requires { ⌜ Short (now chunk) (now edits) ⌝ }
-    requires { ⌜ Ready (now chunk) (now edits) (now s) ⌝ }
+    requires { ⌜ PoolsReady (now chunk) (now edits) (now s) ⌝ }
     requires { ⌜ 3 ≤ width ⌝ }
     requires { ⌜ NamesRoom n start step at (now s) ⌝ }
     ensures { λ r. ⌜ NamesPlaced (now (chunk .entry)) (now (edits .entry)) (nameAt width (now (table .entry))) n start step at (now (s .entry)) (now (s .exit)) (now (out .entry)) (now (out .exit)) r ⌝ }

@@ -4,7 +4,7 @@ ghost use Prim.Native.Nat.{_+_, _≤_, _<_};
 ghost use lib.ListN.{length};
 ghost use Rattle.words.specs.Splice.{Put};
 ghost use Rattle.reflection.specs.Reflection.{isSm5};
-ghost use Rattle.reflection.specs.Decode.{rd11From};
+ghost use Rattle.reflection.specs.Decode.{rd11FromHeader};
 ghost use Rattle.reflection.specs.Limits.{bindingRoom, bufferRoom, variableRoom};
 ghost use Rattle.placing.specs.Bytes.{joinedBytes};
 ghost use Rattle.placing.specs.Pooling.{farthestOffset};
@@ -168,7 +168,7 @@ pub fn put_binding_records(
 
 // Writes the header, with where the buffers' records and the creator lie.
 pub fn put_header(def: ResourceDef, buffers: u32, creator: u32, sm5: bool, out: &mut [u8]) -> usize
-    requires { ⌜ sm5 ≡ isSm5 (rd11From def) ⌝ }
+    requires { ⌜ sm5 ≡ isSm5 (rd11FromHeader def) ⌝ }
     ensures { λ r. ⌜ Put (now (out .entry)) 0 (joinedBytes (headerRow def buffers creator)) (now (out .exit)) r ⌝ }
 {
     if sm5 {

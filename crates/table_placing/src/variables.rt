@@ -3,11 +3,11 @@ ghost use mathlib.Core.Path.{_≡_};
 ghost use Prim.Native.Nat.{_+_, _≤_, _<_};
 ghost use Rattle.reflection.specs.Nodes.{typeLevels};
 ghost use Rattle.reflection.specs.Limits.{typeRoom, variableRoom};
-ghost use Rattle.placing.specs.Scratch.{Ready};
+ghost use Rattle.placing.specs.Scratch.{PoolsReady};
 ghost use Rattle.placing.specs.Pooling.{Short};
 ghost use Rattle.type_equality.specs.Trees.{treeAt};
-ghost use Rattle.table_placing.specs.Held.{rootAt};
-ghost use Rattle.table_placing.specs.Moved.{Within, VariablePlaced, VariablesPlaced};
+ghost use Rattle.table_placing.specs.TableReflection.{rootAt};
+ghost use Rattle.table_placing.specs.Moved.{CursorBounds, VariablePlaced, VariablesPlaced};
 use crate::Reached;
 use placing::VARIABLE_OFFSETS;
 use placing::VARIABLES_START;
@@ -29,8 +29,8 @@ fn place_variable<'a>(
     sm5: bool,
 ) -> Reached
     requires { ⌜ Short (now chunk) (now edits) ⌝ }
-    requires { ⌜ Ready (now chunk) (now edits) (now s) ⌝ }
-    requires { ⌜ Within j k n roots at (now s) ⌝ }
+    requires { ⌜ PoolsReady (now chunk) (now edits) (now s) ⌝ }
+    requires { ⌜ CursorBounds j k n roots at (now s) ⌝ }
     requires { ⌜ treeAt (now types) typeLevels k .next ≤ typeRoom ⌝ }
     requires { ⌜ j < variableRoom ⌝ }
     ensures { λ r. ⌜ VariablePlaced (now (chunk .entry)) (now (edits .entry)) (now (variables .entry)) (now (types .entry)) sm5 share j k n roots at (now (s .entry)) (now (s .exit)) (now (out .entry)) (now (out .exit)) r ⌝ }
@@ -88,8 +88,8 @@ pub fn place_variables<'a>(
     sm5: bool,
 ) -> Reached
     requires { ⌜ Short (now chunk) (now edits) ⌝ }
-    requires { ⌜ Ready (now chunk) (now edits) (now s) ⌝ }
-    requires { ⌜ Within j k n roots at (now s) ⌝ }
+    requires { ⌜ PoolsReady (now chunk) (now edits) (now s) ⌝ }
+    requires { ⌜ CursorBounds j k n roots at (now s) ⌝ }
     requires { ⌜ k ≡ rootAt (now types) j ⌝ }
     requires { ⌜ (rootAt (now types) (j + count) ≤ typeRoom) × (j + count ≤ variableRoom) ⌝ }
     ensures { λ r. ⌜ VariablesPlaced (now (chunk .entry)) (now (edits .entry)) (now (variables .entry)) (now (types .entry)) sm5 share j count k n roots at (now (s .entry)) (now (s .exit)) (now (out .entry)) (now (out .exit)) r ⌝ }

@@ -16,10 +16,10 @@ use Rattle.reflection.specs.declared.ResourceBinding.{ResourceBinding}
 use Rattle.reflection.specs.declared.Refusal.{Refusal}
 use Rattle.reflection.specs.Outcome.{because}
 use Rattle.reflection.specs.Texts.{inChunk}
-use Rattle.reflection.specs.Records.{bindingWords, putRecord}
+use Rattle.reflection.specs.Records.{bindingWordsInTable, putRecord}
 use Rattle.reflection.specs.Tables.{bindingRecord}
 use Rattle.reading.specs.Step.{room}
-use Rattle.reading.specs.Read.{readBinding, bindingStride, bindingFrom}
+use Rattle.reading.specs.Read.{readBinding, bindingStride, bindingFromChunk}
 use Rattle.type_walk.specs.declared.Walk.{Walk}
 use Rattle.type_walk.specs.declared.Walk.the-variants.{Next, Refused}
 use Rattle.type_walk.specs.Progress.{Progress, stopped, progress, Grew}
@@ -90,15 +90,15 @@ module _ {s : List ℕ} {wide : Bool} {first count capacity : ℕ} {table₀ tab
           ends-named-badly bad = stops (suc after) one-less (λ f v t. binding-named-badly s wide at (take (next * bindingWidth) table) f v t after fits codes bad)
 
           pub goes-on : {place n : ℕ} → cstringAt s (wordAt s at) ≡ At place n
-              → {name : Text} → name ≡ inChunk place n → {binding : ResourceBinding} → binding ≡ bindingRecord (bindingFrom s wide at name)
-              → {table₁ : List ℕ} → table₁ ≡ putRecord bindingWidth table next (bindingWords binding) → length table₁ ≡ length table
+              → {name : Text} → name ≡ inChunk place n → {binding : ResourceBinding} → binding ≡ bindingRecord (bindingFromChunk s wide at name)
+              → {table₁ : List ℕ} → table₁ ≡ putRecord bindingWidth table next (bindingWordsInTable binding) → length table₁ ≡ length table
               → (stride : ℕ) → stride ≡ bindingStride wide → BindingsLeft s wide first count capacity table₀ table₁ (next + 1) (at + stride) (left - 1)
-          unfolding bindingsProgress bindingWords
+          unfolding bindingsProgress bindingWordsInTable
           goes-on {place} {n} found {name} is-name {binding} is {table₁} put long stride is-stride =
-              let words : Text → List ℕ = λ (x : Text). bindingWords (bindingRecord (bindingFrom s wide at x)) in
+              let words : Text → List ℕ = λ (x : Text). bindingWordsInTable (bindingRecord (bindingFromChunk s wide at x)) in
               let in-table : next < length table / bindingWidth = omega (arith, ready .fits, so-far .long) in
               let taken : take ((next + 1) * bindingWidth) table₁ ≡ take (next * bindingWidth) table ++ words (inChunk place n) =
-              ap (take ((next + 1) * bindingWidth)) (put ∙ ap (λ (x : ResourceBinding). putRecord bindingWidth table next (bindingWords x)) is)
+              ap (take ((next + 1) * bindingWidth)) (put ∙ ap (λ (x : ResourceBinding). putRecord bindingWidth table next (bindingWordsInTable x)) is)
               ∙ record-appended bindingWidth table next (words name) in-table refl
               ∙ ap (λ (x : Text). take (next * bindingWidth) table ++ words x) is-name in
               record {

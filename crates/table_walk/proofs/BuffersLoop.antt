@@ -18,7 +18,7 @@ use Rattle.reflection.specs.declared.CBufferDef.{CBufferDef}
 use Rattle.reflection.specs.declared.Refusal.{Refusal}
 use Rattle.reflection.specs.Outcome.{because}
 use Rattle.reflection.specs.Texts.{inChunk}
-use Rattle.reflection.specs.Records.{bufferWords, putRecord}
+use Rattle.reflection.specs.Records.{bufferWordsInTable, putRecord}
 use Rattle.reading.specs.Step.{room}
 use Rattle.reading.specs.Read.{readBuffer}
 use Rattle.type_walk.specs.Progress.{Progress, stopped, progress, onward, Grew}
@@ -27,7 +27,7 @@ use Rattle.table_walk.specs.declared.VariablesWalk.the-variants.{Ended, 
 use Rattle.table_walk.specs.declared.BuffersWalk.{BuffersWalk}
 use Rattle.table_walk.specs.declared.BuffersWalk.the-variants.{Filled, Halted}
 use Rattle.table_walk.specs.Variables.{variablesProgress, variablesAnswered, ReadyVariables, WalkedVariables}
-use Rattle.table_walk.specs.Buffers.{Words, appendBuffer, buffersProgress, bufferRow, ReadyBuffers, WalkedBuffers}
+use Rattle.table_walk.specs.Buffers.{TableWords, appendBuffer, buffersProgress, bufferRecordInChunk, ReadyBuffers, WalkedBuffers}
 use Rattle.table_walk.proofs.Many.{many-none, many-stopped, many-further}
 use Rattle.type_walk.proofs.Table.{record-appended}
 use Rattle.table_walk.proofs.OneBuffer.{ifNamed, buffer-full, buffer-short, buffer-read}
@@ -69,7 +69,7 @@ module _ {s : List ℕ} {sm5 : Bool} {first count fcap vcap tcap : ℕ} {buffers
   abbrev result : List ℕ → List ℕ → List ℕ → BuffersWalk → Type 0
   result buffers′ variables′ types′ r = WalkedBuffers (buffersProgress s sm5 count first) fcap vcap tcap buffers′ variables′ types′ r
 
-  abbrev written : Words
+  abbrev written : TableWords
   written = (take (next * bufferWidth) buffers, (take (variable * variableWidth) variables, take (node * typeWidth) types))
 
   pub ends : left ≤ 0 → result buffers variables types (Filled next variable node)
@@ -91,7 +91,7 @@ module _ {s : List ℕ} {sm5 : Bool} {first count fcap vcap tcap : ℕ} {buffers
   }
 
   module _ (some : 0 < left) where
-    abbrev one : ℕ → ℕ → Progress Words
+    abbrev one : ℕ → ℕ → Progress TableWords
     one b k = progress appendBuffer (readBuffer s sm5 at (room b k (vcap - variable) (tcap - node))) written
 
     stops : {e : Refusal} {buffers′ variables′ types′ : List ℕ} (k : ℕ) → fcap - next ≡ k → ((b : ℕ) → one b k ≡ stopped e)
@@ -123,7 +123,7 @@ module _ {s : List ℕ} {sm5 : Bool} {first count fcap vcap tcap : ℕ} {buffers
         abbrev walked : VariablesWalk → Type 0
         walked r = WalkedVariables (variablesProgress s sm5 many start) vcap tcap variable node variables variables₁ types types₁ r
 
-        abbrev named : Found → Progress (List ℕ × List ℕ) → Progress Words
+        abbrev named : Found → Progress (List ℕ × List ℕ) → Progress TableWords
         named found = onward (ifNamed s at (take (next * bufferWidth) buffers) found)
 
         abbrev variablesAt : ℕ → ℕ → ℕ → Progress (List ℕ × List ℕ)
@@ -147,18 +147,18 @@ module _ {s : List ℕ} {sm5 : Bool} {first count fcap vcap tcap : ℕ} {buffers
           ends-named-badly bad = stops (suc after) one-less (filled Bad bad (Ended v n) (subst walked is-ended answer))
 
           pub goes-on : {place size : ℕ} → cstringAt s (wordAt s at) ≡ At place size
-              → {name : Text} → name ≡ inChunk place size → {buffer : CBufferDef} → buffer ≡ bufferRow s at name
-              → {buffers₁ : List ℕ} → buffers₁ ≡ putRecord bufferWidth buffers next (bufferWords buffer) → (path₁ : List ℕ)
+              → {name : Text} → name ≡ inChunk place size → {buffer : CBufferDef} → buffer ≡ bufferRecordInChunk s at name
+              → {buffers₁ : List ℕ} → buffers₁ ≡ putRecord bufferWidth buffers next (bufferWordsInTable buffer) → (path₁ : List ℕ)
               → length buffers₁ ≡ length buffers → length variables₁ ≡ length variables → length types₁ ≡ length types → length path₁ ≡ length path
               → BuffersLeft s sm5 first count fcap vcap tcap buffers₀ variables₀ types₀ path₀ buffers₁ variables₁ types₁ path₁ (next + 1) v n (at + bufferStride) (left - 1)
-          unfolding buffersProgress bufferWords
+          unfolding buffersProgress bufferWordsInTable
           goes-on {place} {size} found {name} is-name {buffer} is {buffers₁} put path₁ long long-variables long-types long-path =
               let walk : walked (Ended v n) = subst walked is-ended answer in
-              let words : Text → List ℕ = λ (x : Text). bufferWords (bufferRow s at x) in
+              let words : Text → List ℕ = λ (x : Text). bufferWordsInTable (bufferRecordInChunk s at x) in
               let words₁ : List ℕ × List ℕ = (take (v * variableWidth) variables₁, take (n * typeWidth) types₁) in
               let in-table : next < length buffers / bufferWidth = omega (arith, ready .buffers-fit, so-far .long) in
               let taken : take ((next + 1) * bufferWidth) buffers₁ ≡ take (next * bufferWidth) buffers ++ words (inChunk place size) =
-              ap (take ((next + 1) * bufferWidth)) (put ∙ ap (λ (x : CBufferDef). putRecord bufferWidth buffers next (bufferWords x)) is)
+              ap (take ((next + 1) * bufferWidth)) (put ∙ ap (λ (x : CBufferDef). putRecord bufferWidth buffers next (bufferWordsInTable x)) is)
               ∙ record-appended bufferWidth buffers next (words name) in-table refl
               ∙ ap (λ (x : Text). take (next * bufferWidth) buffers ++ words x) is-name in
               record {

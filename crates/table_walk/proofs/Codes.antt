@@ -10,7 +10,7 @@ use Rattle.codes.specs.Microsoft.{inputTypes, srvDimensions}
 use Rattle.codes.specs.Flags.{bindingFlagsAllowed}
 use Rattle.reflection.specs.Outcome.{Outcome, refused, because}
 use Rattle.reflection.specs.Refusals.{badInputType, badDimension, badBindingFlags}
-use Rattle.reading.specs.Step.{Room, Step, _>>=_, check}
+use Rattle.reading.specs.Step.{Room, ReadStep, _>>=_, check}
 use Rattle.reading.proofs.Steps.{check-holds, check-fails}
 use Rattle.table_walk.specs.Bindings.{codeFault}
 
@@ -45,7 +45,7 @@ module _ (s : List ℕ) (at : ℕ) where
   no-fault i d f = rw (i, d, f, codeFault)
 
 -- the three checks of reading, and what is read after them
-module _ {A : Type 0} (s : List ℕ) (at : ℕ) (after : Unit {0} → Step A) (r : Room) where
+module _ {A : Type 0} (s : List ℕ) (at : ℕ) (after : Unit {0} → ReadStep A) (r : Room) where
   abbrev checked : Outcome (A × Room)
   checked =
       (check (inputTypeKnown s at) badInputType >>= λ _. check (dimensionKnown s at) badDimension >>= λ _. check (flagsAllowed s at) badBindingFlags >>= after) r

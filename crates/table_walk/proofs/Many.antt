@@ -6,12 +6,12 @@ use Prim.Native.Nat.{ℕ, zero, suc, _+_, _-_, _≤_, _<_}
 use native.Mathlib.Omega.{arith}
 use Rattle.reflection.specs.declared.Refusal.{Refusal}
 use Rattle.reflection.specs.Outcome.{Outcome, ok, refused}
-use Rattle.reading.specs.Step.{Room, Step, andThen, _>>=_, return}
+use Rattle.reading.specs.Step.{Room, ReadStep, andThen, _>>=_, return}
 use Rattle.reading.specs.Read.{readMany}
 use Rattle.reading.proofs.Steps.{bind-is}
 use Rattle.type_walk.specs.Progress.{Progress, stopped, reached, progress, onward, appendAll}
 
-module _ {A S : Type 0} (append : A → S → S) (read : ℕ → Step A) (stride : ℕ) where
+module _ {A S : Type 0} (append : A → S → S) (read : ℕ → ReadStep A) (stride : ℕ) where
   -- what reading n records from an offset on appends to w
   abbrev pub many : ℕ → ℕ → S → Room → Progress S
   many n at w r = progress (appendAll append) (readMany read stride n at r) w

@@ -13,10 +13,10 @@ use Rattle.reflection.specs.declared.Text.{Text}
 use Rattle.reflection.specs.Outcome.{Outcome, because}
 use Rattle.reflection.specs.Reflection.{ResourceBinding}
 use Rattle.reflection.specs.Texts.{inChunk}
-use Rattle.reflection.specs.Records.{bindingWords}
+use Rattle.reflection.specs.Records.{bindingWordsInTable}
 use Rattle.reflection.specs.Tables.{bindingRecord}
 use Rattle.reading.specs.Step.{Room, room, return}
-use Rattle.reading.specs.Read.{readBinding, bindingStride, bindingFrom}
+use Rattle.reading.specs.Read.{readBinding, bindingStride, bindingFromChunk}
 use Rattle.reading.proofs.Steps.{check-holds, check-fails, text-found, text-bad, binding-none, binding-taken}
 use Rattle.type_walk.specs.Progress.{Progress, stopped, reached, progress}
 use Rattle.table_walk.specs.Bindings.{appendBinding, codeFault}
@@ -50,7 +50,7 @@ module _ (s : List ℕ) (wide : Bool) (at : ℕ) (w : List ℕ) (f v t : ℕ) wh
         binding-named-badly bad = ap appended (binding-taken b f v t _ ∙ check-holds _ _ _ _ fits ∙ codes-hold _ _ _ _ none ∙ text-bad _ _ _ _ bad)
 
         pub binding-read : (place n : ℕ) → cstringAt s (wordAt s at) ≡ At place n
-            → one ≡ reached (w ++ bindingWords (bindingRecord (bindingFrom s wide at (inChunk place n)))) (room b f v t)
+            → one ≡ reached (w ++ bindingWordsInTable (bindingRecord (bindingFromChunk s wide at (inChunk place n)))) (room b f v t)
         unfolding readBinding appendBinding return
         binding-read place n name =
             ap appended (binding-taken b f v t _ ∙ check-holds _ _ _ _ fits ∙ codes-hold _ _ _ _ none ∙ text-found _ _ _ _ place n name)

@@ -14,14 +14,14 @@ use Rattle.reflection.specs.declared.Text.{Text}
 use Rattle.reflection.specs.Outcome.{Outcome, ok, refused, because}
 use Rattle.reflection.specs.Reflection.{TypeDesc, CBufferVariable}
 use Rattle.reflection.specs.Texts.{inChunk}
-use Rattle.reflection.specs.Records.{variableWords}
+use Rattle.reflection.specs.Records.{variableWordsInTable}
 use Rattle.reflection.specs.Tables.{variableRecord}
 use Rattle.reading.specs.Step.{Room, room, andThen, return}
-use Rattle.reading.specs.Read.{readVariable, readType, variableStride, variableFrom, defaultAt}
+use Rattle.reading.specs.Read.{readVariable, readType, variableStride, variableFromChunk, defaultAt}
 use Rattle.reading.proofs.Steps.{check-holds, check-fails, bind-is, text-found, text-bad, variable-none, variable-taken}
 use Rattle.type_walk.specs.Progress.{Progress, stopped, reached, progress, onward}
 use Rattle.type_walk.specs.Walk.{appendType, typeProgress}
-use Rattle.table_walk.specs.Variables.{appendVariable, variableRow}
+use Rattle.table_walk.specs.Variables.{appendVariable, variableRecordInChunk}
 
 module _ (s : List ℕ) (sm5 : Bool) (at : ℕ) (w : List ℕ × List ℕ) (b f t : ℕ) where
   abbrev appended : Outcome (CBufferVariable Text Text × Room) → Progress (List ℕ × List ℕ)
@@ -54,17 +54,17 @@ module _ (s : List ℕ) (sm5 : Bool) (at : ℕ) (w : List ℕ × List ℕ) (b f 
         -- its record, and then the nodes of its type
         pub variable-read : (place size : ℕ) → cstringAt s (wordAt s at) ≡ At place size
             → one
-            ≡ onward (λ nodes r. reached (w .0 ++ variableWords (variableRow s sm5 at (inChunk place size) (inChunk dplace dsize)), nodes) r)
+            ≡ onward (λ nodes r. reached (w .0 ++ variableWordsInTable (variableRecordInChunk s sm5 at (inChunk place size) (inChunk dplace dsize)), nodes) r)
             (typeProgress s sm5 typeLevels [] (wordAt s (at + 16)) (inChunk 0 0) 0 (w .1) (room b f v t))
-        unfolding readVariable typeProgress return appendVariable variableRecord variableFrom variableRow
+        unfolding readVariable typeProgress return appendVariable variableRecord variableFromChunk variableRecordInChunk
         variable-read place size found =
             ap appended
             (variable-taken b f v t _ ∙ check-holds _ _ _ _ fits ∙ text-found _ _ _ _ dplace dsize default ∙ text-found _ _ _ _ place size found ∙ bind-is _ _ _)
             ∙ typed (readType s sm5 typeLevels [] (wordAt s (at + 16)) (room b f v t))
           where
             typed : (y : Outcome (TypeDesc Text × Room))
-                → appended (andThen y (λ type. return (variableFrom s sm5 at (inChunk place size) (inChunk dplace dsize) type)))
-                ≡ onward (λ nodes r. reached (w .0 ++ variableWords (variableRow s sm5 at (inChunk place size) (inChunk dplace dsize)), nodes) r)
+                → appended (andThen y (λ type. return (variableFromChunk s sm5 at (inChunk place size) (inChunk dplace dsize) type)))
+                ≡ onward (λ nodes r. reached (w .0 ++ variableWordsInTable (variableRecordInChunk s sm5 at (inChunk place size) (inChunk dplace dsize)), nodes) r)
                 (progress (appendType (inChunk 0 0) 0) y (w .1))
             typed (ok z) = refl
             typed (refused e) = refl

@@ -16,16 +16,16 @@ use Rattle.reflection.specs.declared.CBufferVariable.{CBufferVariable}
 use Rattle.reflection.specs.declared.Refusal.{Refusal}
 use Rattle.reflection.specs.Outcome.{because}
 use Rattle.reflection.specs.Texts.{inChunk}
-use Rattle.reflection.specs.Records.{variableWords, putRecord}
+use Rattle.reflection.specs.Records.{variableWordsInTable, putRecord}
 use Rattle.reading.specs.Step.{room}
 use Rattle.reading.specs.Read.{readVariable, variableStride, defaultAt}
 use Rattle.type_walk.specs.declared.Walk.{Walk}
 use Rattle.type_walk.specs.declared.Walk.the-variants.{Next, Refused}
 use Rattle.type_walk.specs.Progress.{Progress, stopped, reached, progress, onward, Grew}
-use Rattle.type_walk.specs.Walk.{typeProgress, answered, Ready, Walked}
+use Rattle.type_walk.specs.Walk.{typeProgress, answered, WalkReady, TypeWalked}
 use Rattle.table_walk.specs.declared.VariablesWalk.{VariablesWalk}
 use Rattle.table_walk.specs.declared.VariablesWalk.the-variants.{Ended, Stopped}
-use Rattle.table_walk.specs.Variables.{appendVariable, variablesProgress, variableRow, ReadyVariables, WalkedVariables}
+use Rattle.table_walk.specs.Variables.{appendVariable, variablesProgress, variableRecordInChunk, ReadyVariables, WalkedVariables}
 use Rattle.table_walk.proofs.Many.{many-none, many-stopped, many-further}
 use Rattle.type_walk.proofs.Table.{record-appended}
 use Rattle.table_walk.proofs.OneVariable.{variable-full, variable-short, variable-default-outside, variable-named-badly, variable-read}
@@ -69,7 +69,7 @@ module _ {s : List ℕ} {sm5 : Bool} {first count vcap tcap v n : ℕ} {variable
   }
 
   -- what the walk of a type is given
-  pub type-ready : Ready s typeLevels tcap node types path
+  pub type-ready : WalkReady s typeLevels tcap node types path
   type-ready = record {
     chunk = ready .chunk;
     levels-fit = omega arith;
@@ -116,20 +116,20 @@ module _ {s : List ℕ} {sm5 : Bool} {first count vcap tcap v n : ℕ} {variable
           -- its record is written, and its type at `below` was walked
           module _ {place size : ℕ} (found : cstringAt s (wordAt s at) ≡ At place size)
               {name initial : Text} (is-name : name ≡ inChunk place size) (is-initial : initial ≡ inChunk dplace dsize)
-              {variable : CBufferVariable} (is : variable ≡ variableRow s sm5 at name initial)
-              {variables₁ : List ℕ} (put : variables₁ ≡ putRecord variableWidth variables next (variableWords variable))
+              {variable : CBufferVariable} (is : variable ≡ variableRecordInChunk s sm5 at name initial)
+              {variables₁ : List ℕ} (put : variables₁ ≡ putRecord variableWidth variables next (variableWordsInTable variable))
               {below : ℕ} (is-below : below ≡ wordAt s (at + 16)) {root : Text} (is-root : root ≡ inChunk 0 0) (types₁ path₁ : List ℕ) where
             abbrev walked : Walk → Type 0
-            walked r = Walked (typeProgress s sm5 typeLevels [] below root 0 (take (node * typeWidth) types)) typeLevels tcap node types types₁ path path₁ r
+            walked r = TypeWalked (typeProgress s sm5 typeLevels [] below root 0 (take (node * typeWidth) types)) typeLevels tcap node types types₁ path path₁ r
 
             abbrev words : Text → Text → List ℕ
-            words x y = variableWords (variableRow s sm5 at x y)
+            words x y = variableWordsInTable (variableRecordInChunk s sm5 at x y)
 
             taken : take ((next + 1) * variableWidth) variables₁ ≡ take (next * variableWidth) variables ++ words (inChunk place size) (inChunk dplace dsize)
-            unfolding variableWords
+            unfolding variableWordsInTable
             taken =
                 let in-table : next < length variables / variableWidth = omega (arith, ready .variables-fit, so-far .long) in
-                ap (take ((next + 1) * variableWidth)) (put ∙ ap (λ (x : CBufferVariable). putRecord variableWidth variables next (variableWords x)) is)
+                ap (take ((next + 1) * variableWidth)) (put ∙ ap (λ (x : CBufferVariable). putRecord variableWidth variables next (variableWordsInTable x)) is)
                 ∙ record-appended variableWidth variables next (words name initial) in-table refl
                 ∙ ap (λ (x : Text). take (next * variableWidth) variables ++ words x initial) is-name
                 ∙ ap (λ (x : Text). take (next * variableWidth) variables ++ words (inChunk place size) x) is-initial

@@ -1,3 +1,4 @@
+-- Vocabulary of internal contracts: no contract of an exported function and no demand cites it.
 -- The walk of the bindings: what it is given, and what it leaves.
 use mathlib.Core.Path.{_≡_}
 use mathlib.Core.Bool.{Bool, true, false}
@@ -11,7 +12,7 @@ use Rattle.codes.specs.Flags.{bindingFlagsAllowed}
 use Rattle.reflection.specs.Limits.{chunkLimit, bindingWidth}
 use Rattle.reflection.specs.declared.Text.{Text}
 use Rattle.reflection.specs.Reflection.{ResourceBinding}
-use Rattle.reflection.specs.Records.{bindingWords}
+use Rattle.reflection.specs.Records.{bindingWordsInTable}
 use Rattle.reflection.specs.Tables.{bindingRecord}
 use Rattle.reflection.specs.Refusals.{badInputType, badDimension, badBindingFlags}
 use Rattle.reading.specs.Step.{Room, room}
@@ -23,7 +24,7 @@ use Rattle.type_walk.specs.Walk.{GrewTo}
 
 -- A binding's record after the words w.
 unfoldable pub appendBinding : ResourceBinding Text → List ℕ → List ℕ
-appendBinding x w = w ++ bindingWords (bindingRecord x)
+appendBinding x w = w ++ bindingWordsInTable (bindingRecord x)
 
 unfoldable pub bindingsProgress : List ℕ → Bool → ℕ → ℕ → List ℕ → Room → Progress (List ℕ)
 bindingsProgress s wide n at w r = progress (appendAll appendBinding) (readMany (readBinding s wide) (bindingStride wide) n at r) w

@@ -1,3 +1,4 @@
+-- Vocabulary of internal contracts: no contract of an exported function and no demand cites it.
 -- The walk of the buffers, each with its variables and their types: what it is given, and what it leaves.
 use mathlib.Core.Path.{_≡_}
 use mathlib.Core.Bool.{Bool}
@@ -10,7 +11,7 @@ use Rattle.reflection.specs.Strides.{bufferStride}
 use Rattle.reflection.specs.declared.Text.{Text}
 use Rattle.reflection.specs.declared.CBufferDef.{CBufferDef as BufferRecord}
 use Rattle.reflection.specs.Reflection.{CBufferDef}
-use Rattle.reflection.specs.Records.{bufferWords}
+use Rattle.reflection.specs.Records.{bufferWordsInTable}
 use Rattle.reflection.specs.Tables.{bufferRecord}
 use Rattle.reading.specs.Step.{Room, room}
 use Rattle.reading.specs.Read.{readMany, readBuffer}
@@ -20,18 +21,18 @@ use Rattle.table_walk.specs.declared.BuffersWalk.{BuffersWalk}
 use Rattle.table_walk.specs.declared.BuffersWalk.the-variants.{Filled, Halted}
 
 -- The buffers' words, the variables' and the nodes'.
-abbrev pub Words : Type 0
-Words = List ℕ × (List ℕ × List ℕ)
+abbrev pub TableWords : Type 0
+TableWords = List ℕ × (List ℕ × List ℕ)
 
-unfoldable pub appendBuffer : CBufferDef Text Text → Words → Words
-appendBuffer x w = (w .0 ++ bufferWords (bufferRecord x), appendAll appendVariable (x .variables) (w .1))
+unfoldable pub appendBuffer : CBufferDef Text Text → TableWords → TableWords
+appendBuffer x w = (w .0 ++ bufferWordsInTable (bufferRecord x), appendAll appendVariable (x .variables) (w .1))
 
-unfoldable pub buffersProgress : List ℕ → Bool → ℕ → ℕ → Words → Room → Progress Words
+unfoldable pub buffersProgress : List ℕ → Bool → ℕ → ℕ → TableWords → Room → Progress TableWords
 buffersProgress s sm5 n at w r = progress (appendAll appendBuffer) (readMany (readBuffer s sm5) bufferStride n at r) w
 
 -- The record of the buffer at an offset: its variable count is the one that the chunk says.
-unfoldable pub bufferRow : List ℕ → ℕ → Text → BufferRecord
-bufferRow s at name = record { name = name; «variable_count» = wordAt s (at + 4); size = wordAt s (at + 12); flags = wordAt s (at + 16); «cb_type» = wordAt s (at + 20) }
+unfoldable pub bufferRecordInChunk : List ℕ → ℕ → Text → BufferRecord
+bufferRecordInChunk s at name = record { name = name; «variable_count» = wordAt s (at + 4); size = wordAt s (at + 12); flags = wordAt s (at + 16); «cb_type» = wordAt s (at + 20) }
 
 pub record ReadyBuffers (s : List ℕ) (fcap vcap tcap : ℕ) (buffers variables types path : List ℕ) : Type 0 where
   pub chunk : length s ≤ chunkLimit
@@ -40,7 +41,7 @@ pub record ReadyBuffers (s : List ℕ) (fcap vcap tcap : ℕ) (buffers variables
   pub variables-fit : vcap ≤ length variables / variableWidth
   pub types-fit : tcap ≤ length types / typeWidth
 
-abbrev pub buffersAnswered : ℕ → ℕ → ℕ → BuffersWalk → List ℕ → List ℕ → List ℕ → (ℕ → ℕ → ℕ → Room) → Progress Words
+abbrev pub buffersAnswered : ℕ → ℕ → ℕ → BuffersWalk → List ℕ → List ℕ → List ℕ → (ℕ → ℕ → ℕ → Room) → Progress TableWords
 buffersAnswered fcap vcap tcap (Filled f v n) buffers variables types r =
     reached (take (f * bufferWidth) buffers, (take (v * variableWidth) variables, take (n * typeWidth) types)) (r (fcap - f) (vcap - v) (tcap - n))
 buffersAnswered fcap vcap tcap (Halted e) buffers variables types r = stopped e
@@ -50,6 +51,6 @@ BuffersGrew fcap vcap tcap (Filled f v n) = Grew fcap 0 f × (Grew vcap 0 v × G
 BuffersGrew fcap vcap tcap (Halted e) = Unit
 
 -- From empty tables.
-pub record WalkedBuffers (out : Words → Room → Progress Words) (fcap vcap tcap : ℕ) (buffers′ variables′ types′ : List ℕ) (r : BuffersWalk) : Type 0 where
+pub record WalkedBuffers (out : TableWords → Room → Progress TableWords) (fcap vcap tcap : ℕ) (buffers′ variables′ types′ : List ℕ) (r : BuffersWalk) : Type 0 where
   pub outcome : (b : ℕ) → out ([], ([], [])) (room b fcap vcap tcap) ≡ buffersAnswered fcap vcap tcap r buffers′ variables′ types′ (room b)
   pub grew : BuffersGrew fcap vcap tcap r

@@ -1,3 +1,4 @@
+-- Vocabulary of internal contracts: no contract of an exported function and no demand cites it.
 -- The walk of a buffer's variables, each with the nodes of its type: what it is given, and what it leaves.
 use mathlib.Core.Path.{_≡_}
 use mathlib.Core.Bool.{Bool}
@@ -10,7 +11,7 @@ use Rattle.reflection.specs.declared.Text.{Text}
 use Rattle.reflection.specs.declared.CBufferVariable.{CBufferVariable as VariableRecord}
 use Rattle.reflection.specs.Reflection.{CBufferVariable}
 use Rattle.reflection.specs.Texts.{inChunk}
-use Rattle.reflection.specs.Records.{variableWords}
+use Rattle.reflection.specs.Records.{variableWordsInTable}
 use Rattle.reflection.specs.Tables.{variableRecord}
 use Rattle.reading.specs.Step.{Room, room}
 use Rattle.reading.specs.Read.{readMany, readVariable, variableStride, wordIf}
@@ -21,14 +22,14 @@ use Rattle.table_walk.specs.declared.VariablesWalk.the-variants.{Ended, 
 
 -- A variable's record after the variables' words, and the nodes of its type after the nodes' words.
 unfoldable pub appendVariable : CBufferVariable Text Text → List ℕ × List ℕ → List ℕ × List ℕ
-appendVariable x w = (w .0 ++ variableWords (variableRecord x), appendType (inChunk 0 0) 0 (x .var-type) (w .1))
+appendVariable x w = (w .0 ++ variableWordsInTable (variableRecord x), appendType (inChunk 0 0) 0 (x .var-type) (w .1))
 
 unfoldable pub variablesProgress : List ℕ → Bool → ℕ → ℕ → List ℕ × List ℕ → Room → Progress (List ℕ × List ℕ)
 variablesProgress s sm5 n at w r = progress (appendAll appendVariable) (readMany (readVariable s sm5) (variableStride sm5) n at r) w
 
 -- The record of the variable at an offset, whatever its type.
-unfoldable pub variableRow : List ℕ → Bool → ℕ → Text → Text → VariableRecord
-variableRow s sm5 at name default = record {
+unfoldable pub variableRecordInChunk : List ℕ → Bool → ℕ → Text → Text → VariableRecord
+variableRecordInChunk s sm5 at name default = record {
   name = name;
   offset = wordAt s (at + 4);
   size = wordAt s (at + 8);

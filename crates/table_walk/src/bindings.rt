@@ -4,7 +4,7 @@ ghost use mathlib.Core.Bool.{true};
 ghost use Prim.Native.Nat.{_≤_};
 ghost use Rattle.reflection.specs.Limits.{chunkLimit};
 ghost use Rattle.reflection.specs.Tables.{bindingRecord};
-ghost use Rattle.reading.specs.Read.{bindingStride, bindingFrom};
+ghost use Rattle.reading.specs.Read.{bindingStride, bindingFromChunk};
 ghost use Rattle.table_walk.specs.Bindings.{codeFault, bindingsProgress, ReadyBindings, WalkedBindings};
 use codes::BindingFlags;
 use codes::ResourceDimension;
@@ -56,7 +56,7 @@ fn code_fault(s: &[u8], at: usize) -> u32
 // The binding at `at`, whose name is known.
 fn binding_record(s: &[u8], at: usize, wide: bool, name: Text) -> ResourceBinding
     requires { ⌜ at ≤ chunkLimit ⌝ }
-    ensures { λ r. ⌜ r ≡ bindingRecord (bindingFrom (now (s .entry)) wide at name) ⌝ }
+    ensures { λ r. ⌜ r ≡ bindingRecord (bindingFromChunk (now (s .entry)) wide at name) ⌝ }
 {
     ResourceBinding {
         name: name,

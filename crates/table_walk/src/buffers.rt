@@ -2,7 +2,7 @@
 ghost use mathlib.Core.Path.{_≡_};
 ghost use Prim.Native.Nat.{_≤_};
 ghost use Rattle.reflection.specs.Limits.{chunkLimit};
-ghost use Rattle.table_walk.specs.Buffers.{bufferRow, buffersProgress, ReadyBuffers, WalkedBuffers};
+ghost use Rattle.table_walk.specs.Buffers.{bufferRecordInChunk, buffersProgress, ReadyBuffers, WalkedBuffers};
 use crate::BuffersWalk;
 use crate::VariablesWalk;
 use crate::variables::walk_variables;
@@ -19,7 +19,7 @@ use text::Found;
 // The buffer at `at`, whose name is known.
 fn buffer_record(s: &[u8], at: usize, name: Text) -> CBufferDef
     requires { ⌜ at ≤ chunkLimit ⌝ }
-    ensures { λ r. ⌜ r ≡ bufferRow (now (s .entry)) at name ⌝ }
+    ensures { λ r. ⌜ r ≡ bufferRecordInChunk (now (s .entry)) at name ⌝ }
 {
     CBufferDef {
         name: name,

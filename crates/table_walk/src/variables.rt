@@ -4,10 +4,10 @@ ghost use mathlib.Core.Bool.{true};
 ghost use Prim.Native.Nat.{_+_, _≤_};
 ghost use lib.ListN.{length};
 ghost use Rattle.words.specs.Words.{wordAt};
-ghost use Rattle.text.specs.Strings.{Within};
+ghost use Rattle.text.specs.Strings.{FoundWithin};
 ghost use Rattle.reflection.specs.Limits.{chunkLimit};
 ghost use Rattle.reading.specs.Read.{variableStride, defaultAt};
-ghost use Rattle.table_walk.specs.Variables.{variableRow, variablesProgress, ReadyVariables, WalkedVariables};
+ghost use Rattle.table_walk.specs.Variables.{variableRecordInChunk, variablesProgress, ReadyVariables, WalkedVariables};
 use crate::VariablesWalk;
 use codes::VariableFlags;
 use reflection::BAD_NAME;
@@ -40,7 +40,7 @@ fn variable_stride(sm5: bool) -> usize
 fn default_of(s: &[u8], at: usize) -> Found
     requires { ⌜ at ≤ chunkLimit ⌝ }
     ensures { λ r. ⌜ (r ≡ defaultAt (now (s .entry)) (wordAt (now (s .entry)) (at + 20)) (wordAt (now (s .entry)) (at + 8)))
-        × Within (length (now (s .entry))) r ⌝ }
+        × FoundWithin (length (now (s .entry))) r ⌝ }
 {
     let offset = words::word_at(s, at + 20);
     let size = words::word_at(s, at + 8);
@@ -57,7 +57,7 @@ fn default_of(s: &[u8], at: usize) -> Found
 // The variable at `at`, whose name and default are known.
 fn variable_record(s: &[u8], at: usize, sm5: bool, name: Text, default: Text) -> CBufferVariable
     requires { ⌜ at ≤ chunkLimit ⌝ }
-    ensures { λ r. ⌜ r ≡ variableRow (now (s .entry)) sm5 at name default ⌝ }
+    ensures { λ r. ⌜ r ≡ variableRecordInChunk (now (s .entry)) sm5 at name default ⌝ }
 {
     CBufferVariable {
         name: name,

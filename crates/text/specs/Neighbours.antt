@@ -1,3 +1,4 @@
+-- Vocabulary of internal contracts: no contract of an exported function and no demand cites it.
 -- Well-formed UTF-8 by each byte and the three before it, as `utf8_ok` tests long texts: proofs/Neighbours.antt shows that it is Table 3-7.
 use mathlib.Core.Bool.{Bool, not, _&&_, _||_, cond}
 use mathlib.Core.List.{List, [], _∷_}

@@ -1,3 +1,4 @@
+-- Vocabulary of internal contracts: no contract of an exported function and no demand cites it.
 -- Table 3-7 by the first byte of a sequence: how many bytes follow it, and between which the second lies. `utf8_ok` goes by these numbers;
 -- proofs/Sequences.antt shows that they are the table's.
 use mathlib.Core.Bool.{false, cond}

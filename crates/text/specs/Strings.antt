@@ -28,15 +28,6 @@ withoutNul [] = true
 withoutNul (b ∷ bs) = not (eqb b 0) && withoutNul bs
 
 -- What was found lies within n bytes.
-abbrev pub Within : ℕ → Found → Type 0
-Within n (At place k) = place + k ≤ n
-Within n Bad = Unit
-
--- Its place and its length; 0 where there is none.
-abbrev pub placeOf : Found → ℕ
-placeOf (At place n) = place
-placeOf Bad = 0
-
-abbrev pub lengthOf : Found → ℕ
-lengthOf (At place n) = n
-lengthOf Bad = 0
+abbrev pub FoundWithin : ℕ → Found → Type 0
+FoundWithin n (At place k) = place + k ≤ n
+FoundWithin n Bad = Unit

@@ -5,7 +5,7 @@ ghost use lib.ListN.{length};
 ghost use Rattle.text.specs.Utf8.{wellFormed};
 ghost use Rattle.text.specs.Sequences.{tailsAfter, lowestAfter, highestAfter, SequenceEnd};
 ghost use Rattle.text.specs.Neighbours.{tailDue, fits};
-ghost use Rattle.text.specs.Strings.{cstringAt, withoutNul, Within};
+ghost use Rattle.text.specs.Strings.{cstringAt, withoutNul, FoundWithin};
 ghost use Rattle.text.specs.Same.{sameBytes};
 
 // Bytes that an offset leads to: their place and length, or that they are bad.
@@ -163,7 +163,7 @@ pub fn utf8_ok(s: &[u8]) -> bool
 
 // The string at an offset, up to its NUL. Bytes below 0x80 are well-formed as they are, so that most strings need no second pass.
 pub fn cstring_at(s: &[u8], at: usize) -> Found
-    ensures { λ r. ⌜ (r ≡ cstringAt (now (s .entry)) at) × Within (length (now (s .entry))) r ⌝ }
+    ensures { λ r. ⌜ (r ≡ cstringAt (now (s .entry)) at) × FoundWithin (length (now (s .entry))) r ⌝ }
 {
     let mut ascii = true;
     let mut i = at;

@@ -12,7 +12,8 @@ use borrow.Author.Tests.{eq-eqb, ne-eqb}
 use lib.Dec.{eqb}
 use lib.ListN.{length, getD, set, length-set}
 use lib.Seq.{getD-set-same, getD-set-other}
-use Rattle.words.specs.Splice.{splice, length-splice}
+use Rattle.words.specs.Splice.{splice}
+use Rattle.words.proofs.Splice.{length-splice}
 use Rattle.words.proofs.Splice.{splice-puts, splice-keeps-before}
 use Rattle.reflection.specs.declared.Text.{Text}
 use Rattle.reflection.specs.Records.{textAt}

@@ -1,3 +1,4 @@
+-- Vocabulary of internal contracts: no contract of an exported function and no demand cites it.
 -- A pool of texts in lent words: what was written once, with its offset (document 01, "Canonical form": string pools, defaults). Word 0 counts the entries;
 -- then comes a link for each of 1,024 buckets; then the entries, of five words: the text's source, place and length, its offset, a link. A link is 0, or an
 -- entry's number and 1: it leads to the newest entry of a bucket, and from an entry to the next older one of its bucket. The links only make finding fast:

@@ -3,7 +3,7 @@ ghost use mathlib.Core.Path.{_≡_};
 ghost use mathlib.Core.Bool.{true, false};
 ghost use Prim.Native.Nat.{_≤_};
 ghost use Rattle.text.specs.Same.{sameBytes};
-ghost use Rattle.reflection.specs.Decode.{nodeFrom};
+ghost use Rattle.reflection.specs.Decode.{nodeFromTable};
 ghost use Rattle.writing.specs.Same.{numbersOf, sameType, sameMembers};
 ghost use Rattle.type_equality.specs.Trees.{farthestNode, nodeAt, treeAt, membersAt, typeTree};
 ghost use Rattle.type_equality.specs.Same.{sameName};
@@ -46,7 +46,7 @@ fn other_numbers(types: &[u32], a: usize, others: &[u32], b: usize) -> bool
 
 // Whether two nodes have the same numbers, the member count left out.
 fn same_numbers(x: TypeDesc, y: TypeDesc) -> bool
-    ensures { λ r. ⌜ r ≡ sameBytes (numbersOf (nodeFrom x .numbers)) (numbersOf (nodeFrom y .numbers)) ⌝ }
+    ensures { λ r. ⌜ r ≡ sameBytes (numbersOf (nodeFromTable x .numbers)) (numbersOf (nodeFromTable y .numbers)) ⌝ }
 {
     if x.class != y.class {
         return false;

@@ -9,7 +9,7 @@ use borrow.Author.Tests.{eq-eqb, ne-eqb}
 use lib.ListN.{getD}
 use Rattle.reflection.specs.declared.TypeDesc.{TypeDesc as TypeRecord}
 use Rattle.reflection.specs.Records.{typeAt}
-use Rattle.reflection.specs.Decode.{nodeFrom}
+use Rattle.reflection.specs.Decode.{nodeFromTable}
 use Rattle.writing.specs.Step.{find}
 use Rattle.writing.specs.Same.{sameType}
 use Rattle.placing.specs.Scratch.{sharedWidth, typesFrom}
@@ -51,12 +51,12 @@ module _ (chunk edits types : List ℕ) (levels k : ℕ) (s : List ℕ) (start b
   module _ (n : ℕ) {node : TypeRecord} (is-node : node ≡ typeAt types k) where
     pub shared-looks : (share : Bool) → share ≡ true → node .elements ≡ 0
         → sharedOffset share chunk edits types levels k s start base n ≡ typeOffset chunk edits types levels k s start base n
-    unfolding sharedOffset nodeAt nodeFrom
+    unfolding sharedOffset nodeAt nodeFromTable
     shared-looks share e z =
         rw (e, eq-eqb (typeAt types k .elements) 0 (ap (λ (x : TypeRecord). x .elements) (sym is-node) ∙ z))
 
     pub array-fresh : (share : Bool) → (node .elements ≡ 0 → ⊥) → sharedOffset share chunk edits types levels k s start base n ≡ none
-    unfolding sharedOffset nodeAt nodeFrom
+    unfolding sharedOffset nodeAt nodeFromTable
     array-fresh true d = rw (ne-eqb (typeAt types k .elements) 0 (λ e. d (ap (λ (x : TypeRecord). x .elements) is-node ∙ e)))
     array-fresh false d = refl
 

@@ -15,20 +15,20 @@ use Rattle.text_pool.specs.declared.Pooled.{Pooled}
 use Rattle.text_pool.specs.declared.Pooled.the-variants.{At, Absent}
 use Rattle.text_pool.specs.Pool.{entries, entryCount, pooledAt}
 use Rattle.placing.specs.Ran.{chunkLimit}
-use Rattle.placing.specs.Scratch.{sharedWidth, memberTypesStart, recordsStart, outerPool, innerPool, defaultPool, typesFrom, poolsIn, Ready}
+use Rattle.placing.specs.Scratch.{sharedWidth, memberTypesStart, recordsStart, outerPool, innerPool, defaultPool, typesFrom, poolsIn, PoolsReady}
 use Rattle.placing.specs.InScratch.{Kept}
 use Rattle.placing.proofs.Runs.{ran-below, ran-like, ran-past}
 use Rattle.placing.proofs.ScratchPools.{outer-kept-before, inner-kept-before, defaults-kept-before, ready-kept}
 use Rattle.type_equality.specs.Trees.{treeAt, typeTree}
 use Rattle.type_equality.proofs.Trees.{tree-up}
-use Rattle.type_placing.specs.Room.{Room, Keeps}
+use Rattle.type_placing.specs.Room.{NodeRoom, Keeps}
 use Rattle.type_placing.specs.TypePlaced.{sharedOffset, TypeWritten, MemberTypePlaced}
 use Rattle.type_placing.specs.declared.Span.{Span}
 use Rattle.type_placing.proofs.Stacks.{write-kept, entry-pushed, keeps-same, keeps-then, keeps-entries}
 use Rattle.type_placing.proofs.Sharing.{looked, type-found, type-fresh-shared, looked-is}
 
 -- Past the limit of a chunk nothing is looked up or written.
-pub member-past : (sm5 : Bool) {chunk edits types : List ℕ} {levels k base n at sp next : ℕ} {s out : List ℕ} → Ready chunk edits s → chunkLimit < at → next ≡ treeAt types levels k .next
+pub member-past : (sm5 : Bool) {chunk edits types : List ℕ} {levels k base n at sp next : ℕ} {s out : List ℕ} → PoolsReady chunk edits s → chunkLimit < at → next ≡ treeAt types levels k .next
     → MemberTypePlaced chunk edits types sm5 levels k base n at sp s s out out (record { offset = 0; at = at; next = next; n = n })
 member-past sm5 {chunk} {edits} {types} {levels} {k} {base} {n} {at} {sp} {next} {s} {out} ready past is-next = record {
   ran = λ ts. ran-past chunk edits _ _ past (omega arith) refl;
@@ -43,8 +43,8 @@ member-past sm5 {chunk} {edits} {types} {levels} {k} {base} {n} {at} {sp} {next}
 
 -- What is known of a member's type once it was looked up.
 pub record LookedUp (chunk edits types : List ℕ) (levels k base n at sp : ℕ) (s : List ℕ) (looked-up : Pooled) : Type 0 where
-  pub ready : Ready chunk edits s
-  pub room : Room s k 1 at (base + n) sp
+  pub ready : PoolsReady chunk edits s
+  pub room : NodeRoom s k 1 at (base + n) sp
   pub within : treeAt types levels k .next ≤ typeRoom
   pub look : pooledAt looked-up ≡ sharedOffset true chunk edits types levels k s memberTypesStart base n
 
@@ -86,8 +86,8 @@ module _ {chunk edits types : List ℕ} {levels k base n at sp : ℕ} {s : List 
   entry-in = omega (arith, known .room .stacked, known .within, tree-up types levels k)
 
   -- The room that writing it has.
-  pub room-down : Room s k 1 at (base + n + 0) sp
-  room-down = subst (λ (e : ℕ). Room s k 1 at e sp) (sym (add-zero (base + n))) (known .room)
+  pub room-down : NodeRoom s k 1 at (base + n + 0) sp
+  room-down = subst (λ (e : ℕ). NodeRoom s k 1 at e sp) (sym (add-zero (base + n))) (known .room)
 
   module _ {sm5 : Bool} {s₂ s₃ out out₂ : List ℕ} {placed : Span} (absent : looked-up ≡ Absent)
       (written : TypeWritten chunk edits types sm5 levels k (base + n) 0 at sp s s₂ out out₂ placed)

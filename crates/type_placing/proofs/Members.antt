@@ -10,21 +10,21 @@ use Rattle.reflection.specs.declared.Text.{Text}
 use Rattle.reflection.specs.declared.TypeDesc.{TypeDesc as TypeRecord}
 use Rattle.reflection.specs.Reflection.{TypeDesc, Members, noMember, member, memberCount}
 use Rattle.reflection.specs.Records.{typeAt}
-use Rattle.reflection.specs.Decode.{nodeFrom}
+use Rattle.reflection.specs.Decode.{nodeFromTable}
 use Rattle.reflection.specs.Limits.{typeRoom}
 use Rattle.writing.specs.Step.{Pools}
 use Rattle.writing.specs.Layout.{placeInnerName, placeMembers}
 use Rattle.text_pool.specs.Pool.{entryCount}
 use Rattle.placing.specs.Ran.{textOracle, Ran}
-use Rattle.placing.specs.Scratch.{memberWidth, innerStart, defaultsStart, variablesStart, region, innerPool, poolsIn, Ready}
+use Rattle.placing.specs.Scratch.{memberWidth, innerStart, defaultsStart, variablesStart, region, innerPool, poolsIn, PoolsReady}
 use Rattle.placing.specs.InScratch.{Kept, TextPlaced}
 use Rattle.placing.specs.declared.Spot.{Spot}
 use Rattle.placing.proofs.Runs.{ran-bind, ran-return, ran-like}
 use Rattle.placing.proofs.Regions.{region-agree}
 use Rattle.placing.proofs.ScratchPools.{inner-kept-before, ready-kept, pools-kept-before}
-use Rattle.type_equality.specs.Trees.{Walked, nodeAt, hasMember, membersAt, treeAt, typeTree}
+use Rattle.type_equality.specs.Trees.{BuiltAt, nodeAt, hasMember, membersAt, treeAt, typeTree}
 use Rattle.type_equality.proofs.Trees.{member-left, members-none, members-more, members-past, tree-up}
-use Rattle.type_placing.specs.Room.{nodeBytes, Room, Keeps}
+use Rattle.type_placing.specs.Room.{nodeBytes, NodeRoom, Keeps}
 use Rattle.type_placing.specs.TypePlaced.{MemberTypePlaced, MembersPlaced}
 use Rattle.type_placing.specs.declared.Span.{Span}
 use Rattle.type_placing.proofs.Stacks.{write-kept, words-pushed, region-none, keeps-same, keeps-then, keeps-names, keeps-records}
@@ -40,7 +40,7 @@ pub record Going (chunk edits types : List ℕ) (sm5 : Bool) (levels count k bas
   pub same-next : membersAt (treeAt types (levels - 1)) types count k .next ≡ membersAt (treeAt types (levels - 1)) types left next .next
   pub counted : sp + memberWidth * memberCount (membersAt (treeAt types (levels - 1)) types count k .it)
       ≡ top + memberWidth * memberCount (membersAt (treeAt types (levels - 1)) types left next .it)
-  pub ready : Ready chunk edits s
+  pub ready : PoolsReady chunk edits s
   pub keeps : Keeps s₀ s (base + n) sp
   pub flat : levels ≡ 0 → left ≡ 0
   pub more : n ≤ entries
@@ -51,7 +51,7 @@ pub record Going (chunk edits types : List ℕ) (sm5 : Bool) (levels count k bas
   pub up : sp ≤ top
 
 module _ {chunk edits types : List ℕ} {sm5 : Bool} {levels count k base n at sp : ℕ} {s₀ out₀ : List ℕ} where
-  pub starts : Ready chunk edits s₀ → (levels ≡ 0 → count ≡ 0) → Going chunk edits types sm5 levels count k base n at sp s₀ out₀ s₀ out₀ at k n sp count
+  pub starts : PoolsReady chunk edits s₀ → (levels ≡ 0 → count ≡ 0) → Going chunk edits types sm5 levels count k base n at sp s₀ out₀ s₀ out₀ at k n sp count
   starts ready flat = record {
     whole = λ ts {out′} {records} {end} {ps} ran.
         subst (λ (l : List ℕ). Ran chunk edits (placeMembers (textOracle chunk edits) sm5 (membersAt (treeAt types (levels - 1)) types count k .it)) at (poolsIn s₀ ts (typeTree types (levels - 1)) base n)
@@ -78,10 +78,10 @@ module _ {chunk edits types : List ℕ} {sm5 : Bool} {levels count k base n at s
       ran = λ ts.
           ran-like chunk edits refl refl (append-nil (region sp top s))
           (going .whole ts
-          (subst (λ (w : Walked (Members Text)). Ran chunk edits (placeMembers (textOracle chunk edits) sm5 (w .it)) to (poolsIn s ts (typeTree types (levels - 1)) base entries) out out
+          (subst (λ (w : BuiltAt (Members Text)). Ran chunk edits (placeMembers (textOracle chunk edits) sm5 (w .it)) to (poolsIn s ts (typeTree types (levels - 1)) base entries) out out
           [] to (poolsIn s ts (typeTree types (levels - 1)) base entries)) (sym nothing) (ran-return chunk edits [] to (poolsIn s ts (typeTree types (levels - 1)) base entries) out)));
-      next = sym (going .same-next ∙ ap (λ (w : Walked (Members Text)). w .next) nothing);
-      pushed = omega (arith, going .counted, ap (λ (w : Walked (Members Text)). memberCount (w .it)) nothing);
+      next = sym (going .same-next ∙ ap (λ (w : BuiltAt (Members Text)). w .next) nothing);
+      pushed = omega (arith, going .counted, ap (λ (w : BuiltAt (Members Text)). memberCount (w .it)) nothing);
       ready = going .ready;
       keeps = going .keeps;
       more = going .more;
@@ -95,7 +95,7 @@ module _ {chunk edits types : List ℕ} {sm5 : Bool} {levels count k base n at s
         nothing = members-none types (treeAt types (levels - 1)) left next none
 
     -- A member is left; its type lies within the limit.
-    module _ (here : hasMember types left next ≡ true) (room : Room s₀ k 0 at (base + n) sp) (within : membersAt (treeAt types (levels - 1)) types count k .next ≤ typeRoom) where
+    module _ (here : hasMember types left next ≡ true) (room : NodeRoom s₀ k 0 at (base + n) sp) (within : membersAt (treeAt types (levels - 1)) types count k .next ≤ typeRoom) where
       this-member : membersAt (treeAt types (levels - 1)) types left next
           ≡ record {
             it = member (nodeAt types next .member-name) (nodeAt types next .member-offset) (treeAt types (levels - 1) next .it) (membersAt (treeAt types (levels - 1)) types (left - 1) (treeAt types (levels - 1) next .next) .it);
@@ -112,9 +112,9 @@ module _ {chunk edits types : List ℕ} {sm5 : Bool} {levels count k base n at s
 
       pub type-within : treeAt types (levels - 1) next .next ≤ typeRoom
       type-within =
-          omega (arith, within, going .same-next, ap (λ (w : Walked (Members Text)). w .next) this-member, members-past types (levels - 1) (left - 1) (treeAt types (levels - 1) next .next))
+          omega (arith, within, going .same-next, ap (λ (w : BuiltAt (Members Text)). w .next) this-member, members-past types (levels - 1) (left - 1) (treeAt types (levels - 1) next .next))
 
-      pub room-here : Room s next 0 to (base + entries) top
+      pub room-here : NodeRoom s next 0 to (base + entries) top
       room-here = record {
         cursor = omega (arith, going .near, room .cursor);
         names = omega (arith, going .names, room .names);
@@ -125,7 +125,7 @@ module _ {chunk edits types : List ℕ} {sm5 : Bool} {levels count k base n at s
 
       module _ {s₁ out₁ : List ℕ} {name : Spot} {node : TypeRecord} (is-node : node ≡ typeAt types next)
           (named : TextPlaced chunk edits (placeInnerName (textOracle chunk edits) (node .«member_name»)) to innerPool innerStart defaultsStart s s₁ out out₁ name) where
-        pub room-named : Room s₁ next 1 (name .at) (base + entries) top
+        pub room-named : NodeRoom s₁ next 1 (name .at) (base + entries) top
         room-named = record {
           cursor = omega (arith, room-here .cursor, named .near-high);
           names = omega (arith, room-here .names, named .count-high);
@@ -176,15 +176,15 @@ module _ {chunk edits types : List ℕ} {sm5 : Bool} {levels count k base n at s
               words-pushed s₂ sp top words pushed (going .up) (omega (arith, top-in, typed .ready .long)) ∙ ap (λ (l : List ℕ). l ++ words) same-records
 
           offset-is : node .«member_offset» ≡ nodeAt types next .member-offset
-          unfolding nodeAt nodeFrom
+          unfolding nodeAt nodeFromTable
           offset-is = ap (λ (x : TypeRecord). x .«member_offset») is-node
 
           name-is : node .«member_name» ≡ nodeAt types next .member-name
-          unfolding nodeAt nodeFrom
+          unfolding nodeAt nodeFromTable
           name-is = ap (λ (x : TypeRecord). x .«member_name») is-node
 
           -- The member as the code has it.
-          abbrev this : Walked (Members Text)
+          abbrev this : BuiltAt (Members Text)
           this = record {
             it = member (node .«member_name») (node .«member_offset») (typeTree types (levels - 1) next) (membersAt (treeAt types (levels - 1)) types (left - 1) (placed .next) .it);
             next = membersAt (treeAt types (levels - 1)) types (left - 1) (placed .next) .next;
@@ -216,10 +216,10 @@ module _ {chunk edits types : List ℕ} {sm5 : Bool} {levels count k base n at s
             whole = λ ts {out′} {records} {end} {ps} rest.
                 ran-like chunk edits refl refl (sym (append-assoc (region sp top s) words records) ∙ ap (λ (l : List ℕ). l ++ records) (sym record-there))
                 (going .whole ts
-                (subst (λ (w : Walked (Members Text)). Ran chunk edits (placeMembers (textOracle chunk edits) sm5 (w .it)) to (poolsIn s ts (typeTree types (levels - 1)) base entries)
+                (subst (λ (w : BuiltAt (Members Text)). Ran chunk edits (placeMembers (textOracle chunk edits) sm5 (w .it)) to (poolsIn s ts (typeTree types (levels - 1)) base entries)
                 out out′ (name .offset ∷ placed .offset ∷ node .«member_offset» ∷ records) end ps) (sym this-is) (run-this ts rest)));
-            same-next = going .same-next ∙ ap (λ (w : Walked (Members Text)). w .next) this-is;
-            counted = going .counted ∙ ap (λ (w : Walked (Members Text)). top + memberWidth * memberCount (w .it)) this-is ∙ omega arith;
+            same-next = going .same-next ∙ ap (λ (w : BuiltAt (Members Text)). w .next) this-is;
+            counted = going .counted ∙ ap (λ (w : BuiltAt (Members Text)). top + memberWidth * memberCount (w .it)) this-is ∙ omega arith;
             ready = ready-kept (typed .ready) pushed-kept (omega (arith, room-here .records-low));
             keeps = keeps-all;
             flat = λ e. absurd (omega (arith, e, level));

@@ -6,12 +6,13 @@ use Prim.Native.Nat.{ℕ, _+_, _*_, _/_, _%_, _≤_}
 use native.Mathlib.Omega.{arith}
 use lib.ListN.{length, replicate, length-replicate}
 use Rattle.words.specs.Words.{wordBytes}
-use Rattle.words.specs.Splice.{Put, put-then}
+use Rattle.words.specs.Splice.{Put}
+use Rattle.words.proofs.Splice.{put-then}
 use Rattle.reflection.specs.declared.TypeDesc.{TypeDesc as TypeRecord}
 use Rattle.reflection.specs.Reflection.{TypeNumbers}
-use Rattle.reflection.specs.Decode.{nodeFrom}
+use Rattle.reflection.specs.Decode.{nodeFromTable}
 use Rattle.writing.specs.Step.{_>>=_, append, pad, paddingAt, wordCells}
-use Rattle.writing.specs.Records.{halves, typeWords}
+use Rattle.writing.specs.Records.{halves, typeWordsInChunk}
 use Rattle.placing.specs.Bytes.{joinedBytes}
 use Rattle.placing.specs.declared.Spot.{Spot}
 use Rattle.placing.specs.Scratch.{memberWidth}
@@ -44,8 +45,8 @@ pub words-near : (ws : List ℕ) {out out′ : List ℕ} {at to : ℕ} → Put o
 words-near ws p = omega (arith, p .next, length-joined ws)
 
 -- A descriptor has at most nine words.
-pub descriptor-length : (sm5 : Bool) (k : TypeNumbers) (count members name : ℕ) → length (typeWords sm5 k count members name) ≤ 9
-unfolding typeWords
+pub descriptor-length : (sm5 : Bool) (k : TypeNumbers) (count members name : ℕ) → length (typeWordsInChunk sm5 k count members name) ≤ 9
+unfolding typeWordsInChunk
 descriptor-length true k count members name = omega arith
 descriptor-length false k count members name = omega arith
 
@@ -60,18 +61,18 @@ module _ (node : TypeRecord) (count members name kind shape counts : ℕ)
   first-words = λ i. is-kind i ++ (is-shape i ++ (is-counts i ++ (wordBytes members ++ [])))
 
   pub short-descriptor : {sm5 : Bool} {out out′ : List ℕ} {at to : ℕ} → sm5 ≡ false → Put out at (joinedBytes (kind ∷ shape ∷ counts ∷ members ∷ [])) out′ to
-      → Put out at (joinedBytes (typeWords sm5 (nodeFrom node .numbers) count members name)) out′ to
-  unfolding typeWords nodeFrom
+      → Put out at (joinedBytes (typeWordsInChunk sm5 (nodeFromTable node .numbers) count members name)) out′ to
+  unfolding typeWordsInChunk nodeFromTable
   short-descriptor {sm5} {out} {out′} {at} {to} e p =
-      subst (λ b. Put out at (joinedBytes (typeWords b (nodeFrom node .numbers) count members name)) out′ to) (sym e)
+      subst (λ b. Put out at (joinedBytes (typeWordsInChunk b (nodeFromTable node .numbers) count members name)) out′ to) (sym e)
       (subst (λ bytes. Put out at bytes out′ to) first-words p)
 
   pub long-descriptor : {sm5 : Bool} {out out₁ out′ : List ℕ} {at to₁ to : ℕ} → sm5 ≡ true → Put out at (joinedBytes (kind ∷ shape ∷ counts ∷ members ∷ [])) out₁ to₁
       → Put out₁ to₁ (joinedBytes (node .extra0 ∷ node .extra1 ∷ node .extra2 ∷ node .extra3 ∷ name ∷ [])) out′ to
-      → Put out at (joinedBytes (typeWords sm5 (nodeFrom node .numbers) count members name)) out′ to
-  unfolding typeWords nodeFrom
+      → Put out at (joinedBytes (typeWordsInChunk sm5 (nodeFromTable node .numbers) count members name)) out′ to
+  unfolding typeWordsInChunk nodeFromTable
   long-descriptor {sm5} {out} {out₁} {out′} {at} {to₁} {to} e p q =
-      subst (λ b. Put out at (joinedBytes (typeWords b (nodeFrom node .numbers) count members name)) out′ to) (sym e)
+      subst (λ b. Put out at (joinedBytes (typeWordsInChunk b (nodeFromTable node .numbers) count members name)) out′ to) (sym e)
       (subst (λ bytes. Put out at bytes out′ to)
       (sym (joined-append (halves (node .class) (node .«var_type») ∷ halves (node .rows) (node .columns) ∷ halves (node .elements) count ∷ members ∷ [])
       (node .extra0 ∷ node .extra1 ∷ node .extra2 ∷ node .extra3 ∷ name ∷ [])))
@@ -98,14 +99,14 @@ records-some records some p q = record {
 pub type-put : (sm5 : Bool) (k : TypeNumbers) (name n : ℕ) (records : List ℕ) {out out₁ out₂ out₃ : List ℕ} {at start end : ℕ} {members : Spot}
     → ((count : ℕ) → length records ≡ memberWidth * count → n ≡ count)
     → RecordsPut records at out out₁ members → Put out₁ (members .at) (replicate (paddingAt (members .at)) 0xab) out₂ start
-    → Put out₂ start (joinedBytes (typeWords sm5 k n (members .offset) name)) out₃ end
+    → Put out₂ start (joinedBytes (typeWordsInChunk sm5 k n (members .offset) name)) out₃ end
     → TypePut sm5 k name records at out out₃ (record { offset = start; at = end })
 unfolding closeType
 type-put sm5 k name n records {out₂ = out₂} {out₃} {at} {start} {end} {members} is-count r p q = record {
   ran = λ chunk edits ps count long.
       ran-bind chunk edits _ (r .ran chunk edits ps count long)
       (ran-bind chunk edits _ (ran-pad chunk edits p)
-      (ran-append-words chunk edits (typeWords sm5 k count (members .offset) name)
-      (subst (λ m. Put out₂ start (joinedBytes (typeWords sm5 k m (members .offset) name)) out₃ end) (is-count count long) q)));
-  near = omega (arith, r .near, padding-near p, words-near (typeWords sm5 k n (members .offset) name) q, descriptor-length sm5 k n (members .offset) name);
+      (ran-append-words chunk edits (typeWordsInChunk sm5 k count (members .offset) name)
+      (subst (λ m. Put out₂ start (joinedBytes (typeWordsInChunk sm5 k m (members .offset) name)) out₃ end) (is-count count long) q)));
+  near = omega (arith, r .near, padding-near p, words-near (typeWordsInChunk sm5 k n (members .offset) name) q, descriptor-length sm5 k n (members .offset) name);
 }

@@ -16,7 +16,7 @@ use Rattle.text_pool.specs.declared.Pooled.{Pooled}
 use Rattle.text_pool.specs.declared.Pooled.the-variants.{At, Absent}
 use Rattle.text_pool.specs.Pool.{entries, entryCount, pooledAt}
 use Rattle.placing.specs.Ran.{textOracle, chunkLimit, Ran}
-use Rattle.placing.specs.Scratch.{sharedWidth, innerStart, defaultsStart, rootTypesStart, memberTypesStart, recordsStart, outerPool, innerPool, defaultPool, typesFrom, poolsIn, Ready}
+use Rattle.placing.specs.Scratch.{sharedWidth, innerStart, defaultsStart, rootTypesStart, memberTypesStart, recordsStart, outerPool, innerPool, defaultPool, typesFrom, poolsIn, PoolsReady}
 use Rattle.placing.specs.InScratch.{Kept}
 use Rattle.placing.proofs.Runs.{ran-like, ran-past}
 use Rattle.placing.proofs.Regions.{region-agree, types-agree, types-kept-after}
@@ -24,18 +24,18 @@ use Rattle.placing.proofs.ScratchPools.{outer-kept-before, inner-kept-before, d
 use Rattle.type_equality.specs.Trees.{treeAt, typeTree}
 use Rattle.type_equality.proofs.Trees.{tree-up}
 use Rattle.type_placing.specs.Writing.{writeTree}
-use Rattle.type_placing.specs.Room.{Room}
+use Rattle.type_placing.specs.Room.{NodeRoom}
 use Rattle.type_placing.specs.TypePlaced.{sharedOffset, TypeWritten, RootTypePlaced}
 use Rattle.type_placing.specs.declared.Span.{Span}
 use Rattle.type_placing.proofs.Stacks.{write-kept, entry-pushed}
 use Rattle.type_placing.proofs.Sharing.{looked, type-found, type-fresh-shared, type-fresh-unshared, looked-is}
 
 -- The types of all members lie from entry 0 on.
-pub room-none : {s : List ℕ} {k at n sp : ℕ} → Room s k 1 at n sp → Room s k 1 at (0 + n) sp
-room-none {s} {k} {at} {n} {sp} room = subst (λ (e : ℕ). Room s k 1 at e sp) (sym (zero-add n)) room
+pub room-none : {s : List ℕ} {k at n sp : ℕ} → NodeRoom s k 1 at n sp → NodeRoom s k 1 at (0 + n) sp
+room-none {s} {k} {at} {n} {sp} room = subst (λ (e : ℕ). NodeRoom s k 1 at e sp) (sym (zero-add n)) room
 
 -- Past the limit of a chunk nothing is looked up or written.
-pub root-past : (sm5 share : Bool) {chunk edits types : List ℕ} {levels k n roots at next : ℕ} {s out : List ℕ} → Ready chunk edits s → chunkLimit < at → next ≡ treeAt types levels k .next
+pub root-past : (sm5 share : Bool) {chunk edits types : List ℕ} {levels k n roots at next : ℕ} {s out : List ℕ} → PoolsReady chunk edits s → chunkLimit < at → next ≡ treeAt types levels k .next
     → RootTypePlaced chunk edits types sm5 share levels k n roots at s s out out (record { offset = 0; at = at; next = next; n = n; roots = roots })
 root-past sm5 share {chunk} {edits} {types} {levels} {k} {n} {roots} {at} {next} {s} {out} ready past is-next = record {
   ran = ran-past chunk edits _ _ past (omega arith) refl;
@@ -55,7 +55,7 @@ root-past sm5 share {chunk} {edits} {types} {levels} {k} {n} {roots} {at} {next}
 
 -- What is known of a variable's type once it was looked up.
 pub record LookedUp (chunk edits types : List ℕ) (share : Bool) (levels k roots : ℕ) (s : List ℕ) (looked-up : Pooled) : Type 0 where
-  pub ready : Ready chunk edits s
+  pub ready : PoolsReady chunk edits s
   pub few-roots : roots < variableRoom
   pub look : pooledAt looked-up ≡ sharedOffset share chunk edits types levels k s rootTypesStart 0 roots
 

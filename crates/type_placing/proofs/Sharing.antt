@@ -7,9 +7,10 @@ use Prim.Native.Nat.{ℕ}
 use lib.Dec.{eqb}
 use Rattle.reflection.specs.declared.Text.{Text}
 use Rattle.reflection.specs.Reflection.{TypeDesc, typeDesc}
-use Rattle.writing.specs.Step.{Pools, Step, find, once, addType}
+use Rattle.writing.specs.Step.{Pools, WriteStep, find, once, addType}
 use Rattle.writing.specs.Same.{sameType}
-use Rattle.writing.specs.Canonical.{bytesOracle, through}
+use Rattle.writing.specs.Canonical.{bytesOracle}
+use Rattle.writing.specs.Through.{through}
 use Rattle.writing.specs.Layout.{placeType}
 use Rattle.placing.specs.Ran.{textOracle, Ran}
 use Rattle.placing.specs.Scratch.{typesFrom}
@@ -21,12 +22,12 @@ use Rattle.type_placing.specs.Writing.{writeTree, onlyIf}
 use Rattle.type_placing.specs.TypePlaced.{typeOffset, sharedOffset}
 
 module _ (chunk edits : List ℕ) where
-  once-found : (shared : Bool) (look : Pools Text Text → Option ℕ) (m : Step Text Text ℕ) (offset at : ℕ) (ps : Pools Text Text) (out : List ℕ)
+  once-found : (shared : Bool) (look : Pools Text Text → Option ℕ) (m : WriteStep Text Text ℕ) (offset at : ℕ) (ps : Pools Text Text) (out : List ℕ)
       → onlyIf shared (look ps) ≡ some offset → Ran chunk edits (once shared look m) at ps out out offset at ps
   once-found true look m offset at ps out e = ran-once-found chunk edits look m offset at ps out e
   once-found false look m offset at ps out e = absurd (Option·none-ne-some offset e)
 
-  once-fresh : (shared : Bool) (look : Pools Text Text → Option ℕ) {m : Step Text Text ℕ} {at to offset : ℕ} {ps ps′ : Pools Text Text} {out out′ : List ℕ}
+  once-fresh : (shared : Bool) (look : Pools Text Text → Option ℕ) {m : WriteStep Text Text ℕ} {at to offset : ℕ} {ps ps′ : Pools Text Text} {out out′ : List ℕ}
       → onlyIf shared (look ps) ≡ none → Ran chunk edits m at ps out out′ offset to ps′ → Ran chunk edits (once shared look m) at ps out out′ offset to ps′
   once-fresh true look e p = ran-once-fresh chunk edits look e p
   once-fresh false look e p = ran-once-unshared chunk edits false look refl p

@@ -7,7 +7,8 @@ use native.Mathlib.Nat.{add-zero}
 use native.Mathlib.Omega.{arith}
 use lib.ListN.{length, getD, take, drop}
 use lib.Seq.{length-take-le, take-add, drop-at, drop-append-le}
-use Rattle.words.specs.Splice.{splice, length-splice}
+use Rattle.words.specs.Splice.{splice}
+use Rattle.words.proofs.Splice.{length-splice}
 use Rattle.words.proofs.Splice.{splice-keeps-before, splice-keeps-after, take-splice, splice-puts}
 use Rattle.reflection.specs.declared.Text.{Text}
 use Rattle.reflection.specs.Reflection.{TypeDesc}

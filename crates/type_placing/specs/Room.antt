@@ -1,3 +1,4 @@
+-- Vocabulary of internal contracts: no contract of an exported function and no demand cites it.
 -- Room in the scratch while types are placed, and what of the scratch stays as it was. A node adds at most two names, an entry to the types and a record
 -- to the members' records, so all nodes that there is room for fit (docs/ROOM.md).
 use mathlib.Core.Path.{_≡_}
@@ -17,7 +18,7 @@ spareBytes = 133000
 
 -- The nodes before node k are placed, and `named` more names (the one that node k has as a member or a variable): how far the cursor is, how many names the
 -- pool has, how many types lie on the stack of members' types, and where the stack of records ends.
-pub record Room (s : List ℕ) (k named at entries sp : ℕ) : Type 0 where
+pub record NodeRoom (s : List ℕ) (k named at entries sp : ℕ) : Type 0 where
   pub cursor : at ≤ 3000000000 + k * nodeBytes + named * placedLimit
   pub names : entryCount (innerPool s) ≤ 200 + k * 2 + named
   pub stacked : entries ≤ k

@@ -1,3 +1,4 @@
+-- Vocabulary of internal contracts: no contract of an exported function and no demand cites it.
 -- What the functions that place a type leave: which step ran, and what was used of the room.
 use mathlib.Core.Path.{_≡_}
 use mathlib.Core.Bool.{Bool, true, _&&_}
@@ -13,7 +14,7 @@ use Rattle.writing.specs.Same.{sameType}
 use Rattle.writing.specs.Layout.{placeType, placeMembers}
 use Rattle.text_pool.specs.Pool.{entryCount}
 use Rattle.placing.specs.Ran.{textOracle, Ran}
-use Rattle.placing.specs.Scratch.{memberWidth, rootTypesStart, variablesStart, region, outerPool, innerPool, defaultPool, typesFrom, poolsIn, Ready}
+use Rattle.placing.specs.Scratch.{memberWidth, rootTypesStart, variablesStart, region, outerPool, innerPool, defaultPool, typesFrom, poolsIn, PoolsReady}
 use Rattle.placing.specs.declared.Spot.{Spot}
 use Rattle.type_equality.specs.Trees.{nodeAt, treeAt, membersAt, typeTree}
 use Rattle.type_equality.specs.Same.{sameName}
@@ -51,7 +52,7 @@ pub record TypeWritten (chunk edits types : List ℕ) (sm5 : Bool) (levels k bas
       → Ran chunk edits (writeTree (textOracle chunk edits) sm5 (typeTree types levels k)) at (poolsIn s ts (typeTree types (levels - 1)) base n)
       out out′ (r .offset) (r .at) (poolsIn s′ ts (typeTree types (levels - 1)) base (r .n))
   pub next : r .next ≡ treeAt types levels k .next
-  pub ready : Ready chunk edits s′
+  pub ready : PoolsReady chunk edits s′
   pub keeps : Keeps s s′ (base + n) sp
   pub more : n ≤ r .n
   pub stacked : r .n + k + 1 ≤ n + r .next
@@ -64,7 +65,7 @@ pub record MemberTypePlaced (chunk edits types : List ℕ) (sm5 : Bool) (levels 
       → Ran chunk edits (below (placeType (textOracle chunk edits) sm5 true (typeTree types levels k))) at (poolsIn s ts (typeTree types levels) base n)
       out out′ (r .offset) (r .at) (poolsIn s′ ts (typeTree types levels) base (r .n))
   pub next : r .next ≡ treeAt types levels k .next
-  pub ready : Ready chunk edits s′
+  pub ready : PoolsReady chunk edits s′
   pub keeps : Keeps s s′ (base + n) sp
   pub more : n ≤ r .n
   pub one : r .n ≤ n + 1
@@ -78,7 +79,7 @@ pub record MembersPlaced (chunk edits types : List ℕ) (sm5 : Bool) (levels cou
       (poolsIn s ts (typeTree types (levels - 1)) base n) out out′ (region sp (r .sp) s′) (r .at) (poolsIn s′ ts (typeTree types (levels - 1)) base (r .n))
   pub next : r .next ≡ membersAt (treeAt types (levels - 1)) types count k .next
   pub pushed : r .sp ≡ sp + memberWidth * memberCount (membersAt (treeAt types (levels - 1)) types count k .it)
-  pub ready : Ready chunk edits s′
+  pub ready : PoolsReady chunk edits s′
   pub keeps : Keeps s s′ (base + n) sp
   pub more : n ≤ r .n
   pub stacked : r .n + k ≤ n + r .next
@@ -93,7 +94,7 @@ pub record RootTypePlaced (chunk edits types : List ℕ) (sm5 share : Bool) (lev
       (poolsIn s (typesFrom (typeTree types levels) rootTypesStart s 0 roots) (typeTree types (levels - 1)) 0 n) out out′ (r .offset) (r .at)
       (poolsIn s′ (typesFrom (typeTree types levels) rootTypesStart s′ 0 (r .roots)) (typeTree types (levels - 1)) 0 (r .n))
   pub next : r .next ≡ treeAt types levels k .next
-  pub ready : Ready chunk edits s′
+  pub ready : PoolsReady chunk edits s′
   pub long : length s′ ≡ length s
   pub high : (j : ℕ) → variablesStart ≤ j → getD s′ j 0 ≡ getD s j 0
   pub outer-same : outerPool s′ ≡ outerPool s

@@ -1,29 +1,30 @@
+-- Vocabulary of internal contracts: no contract of an exported function and no demand cites it.
 -- The parts of writing a type (crate writing, Layout) that one function of the code does.
 use mathlib.Core.Bool.{Bool, true, false}
 use mathlib.Core.List.{List}
 use mathlib.Core.Option.{Option, none}
 use Prim.Native.Nat.{ℕ, zero, suc}
 use Rattle.reflection.specs.Reflection.{TypeNumbers, TypeDesc, typeDesc, memberCount}
-use Rattle.writing.specs.Step.{Oracle, Step, _>>=_, append, pad, wordCells, unlessEmpty}
-use Rattle.writing.specs.Records.{typeWords}
+use Rattle.writing.specs.Step.{Oracle, WriteStep, _>>=_, append, pad, wordCells, unlessEmpty}
+use Rattle.writing.specs.Records.{typeWordsInChunk}
 use Rattle.writing.specs.Layout.{writeType, placeMembers}
 
 -- What is written for a type that is not shared.
-unfoldable pub writeTree : {N D : Type 0} → Oracle N D → Bool → TypeDesc N → Step N D ℕ
+unfoldable pub writeTree : {N D : Type 0} → Oracle N D → Bool → TypeDesc N → WriteStep N D ℕ
 writeTree O sm5 (typeDesc k n ms) = writeType O sm5 k n (memberCount ms) (placeMembers O sm5 ms)
 
 -- The records of a type's members, after padding; nothing where it has none.
-unfoldable pub appendRecords : {N D : Type 0} → ℕ → List ℕ → Step N D ℕ
+unfoldable pub appendRecords : {N D : Type 0} → ℕ → List ℕ → WriteStep N D ℕ
 appendRecords count records = unlessEmpty count (do
   _ ← pad
   append (wordCells records))
 
 -- What is written for a type once its name and its members are placed: the members' records and the descriptor.
-unfoldable pub closeType : {N D : Type 0} → Bool → TypeNumbers → ℕ → ℕ → List ℕ → Step N D ℕ
+unfoldable pub closeType : {N D : Type 0} → Bool → TypeNumbers → ℕ → ℕ → List ℕ → WriteStep N D ℕ
 closeType sm5 k count name records = do
   members ← appendRecords count records
   _ ← pad
-  append (wordCells (typeWords sm5 k count members name))
+  append (wordCells (typeWordsInChunk sm5 k count members name))
 
 -- How many members a type with so many levels has, where its node counts `count`.
 abbrev pub countWithin : ℕ → ℕ → ℕ

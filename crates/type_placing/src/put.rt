@@ -4,9 +4,9 @@ ghost use Prim.Native.Nat.{_*_, _≤_};
 ghost use lib.ListN.{length};
 ghost use Rattle.words.specs.Words.{wordBytes};
 ghost use Rattle.words.specs.Splice.{Put};
-ghost use Rattle.reflection.specs.Decode.{nodeFrom};
+ghost use Rattle.reflection.specs.Decode.{nodeFromTable};
 ghost use Rattle.reflection.specs.Limits.{typeRoom};
-ghost use Rattle.writing.specs.Records.{halves, typeWords};
+ghost use Rattle.writing.specs.Records.{halves, typeWordsInChunk};
 ghost use Rattle.placing.specs.Bytes.{joinedBytes};
 ghost use Rattle.placing.specs.Pooling.{farthestOffset};
 ghost use Rattle.placing.specs.Scratch.{memberWidth};
@@ -50,7 +50,7 @@ fn put_descriptor(
     sm5: bool,
 ) -> usize
     requires { ⌜ at ≤ 4294967296 ⌝ }
-    ensures { λ r. ⌜ Put (now (out .entry)) at (joinedBytes (typeWords sm5 (nodeFrom node .numbers) count members name)) (now (out .exit)) r ⌝ }
+    ensures { λ r. ⌜ Put (now (out .entry)) at (joinedBytes (typeWordsInChunk sm5 (nodeFromTable node .numbers) count members name)) (now (out .exit)) r ⌝ }
 {
     let kind = two_halves(node.class, node.var_type);
     let shape = two_halves(node.rows, node.columns);
@@ -74,7 +74,7 @@ pub fn put_type(
     sm5: bool,
 ) -> Spot
     requires { ⌜ (at ≤ farthestOffset) × (length (now records) ≤ typeRoom * memberWidth) ⌝ }
-    ensures { λ r. ⌜ TypePut sm5 (nodeFrom node .numbers) name (now (records .entry)) at (now (out .entry)) (now (out .exit)) r ⌝ }
+    ensures { λ r. ⌜ TypePut sm5 (nodeFromTable node .numbers) name (now (records .entry)) at (now (out .entry)) (now (out .exit)) r ⌝ }
 {
     let count = records.len() / MEMBER_WORDS;
     let members = put_records(out, at, records);

@@ -3,9 +3,9 @@ ghost use Prim.Native.Nat.{_+_, _<_, _≤_};
 ghost use Rattle.reflection.specs.Nodes.{typeLevels};
 ghost use Rattle.reflection.specs.Limits.{variableRoom, typeRoom};
 ghost use Rattle.placing.specs.Pooling.{Short};
-ghost use Rattle.placing.specs.Scratch.{recordsStart, Ready};
+ghost use Rattle.placing.specs.Scratch.{recordsStart, PoolsReady};
 ghost use Rattle.type_equality.specs.Trees.{treeAt};
-ghost use Rattle.type_placing.specs.Room.{Room};
+ghost use Rattle.type_placing.specs.Room.{NodeRoom};
 ghost use Rattle.type_placing.specs.TypePlaced.{RootTypePlaced};
 use crate::RootSpan;
 use crate::find::find_shared;
@@ -32,8 +32,8 @@ pub fn place_root_type<'a>(
     sm5: bool,
 ) -> RootSpan
     requires { ⌜ Short (now chunk) (now edits) ⌝ }
-    requires { ⌜ Ready (now chunk) (now edits) (now s) ⌝ }
-    requires { ⌜ Room (now s) k 1 at n recordsStart ⌝ }
+    requires { ⌜ PoolsReady (now chunk) (now edits) (now s) ⌝ }
+    requires { ⌜ NodeRoom (now s) k 1 at n recordsStart ⌝ }
     requires { ⌜ treeAt (now types) typeLevels k .next ≤ typeRoom ⌝ }
     requires { ⌜ roots < variableRoom ⌝ }
     ensures { λ r. ⌜ RootTypePlaced (now (chunk .entry)) (now (edits .entry)) (now (types .entry)) sm5 share typeLevels k n roots at (now (s .entry)) (now (s .exit)) (now (out .entry)) (now (out .exit)) r ⌝ }

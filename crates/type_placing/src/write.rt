@@ -7,12 +7,12 @@ ghost use Rattle.writing.specs.Layout.{placeInnerName};
 ghost use Rattle.text_pool.specs.Pool.{entryCount};
 ghost use Rattle.placing.specs.Ran.{textOracle};
 ghost use Rattle.placing.specs.Pooling.{Short};
-ghost use Rattle.placing.specs.Scratch.{innerStart, defaultsStart, innerPool, Ready};
+ghost use Rattle.placing.specs.Scratch.{innerStart, defaultsStart, innerPool, PoolsReady};
 ghost use Rattle.placing.specs.InScratch.{innerRoom, TextPlaced};
 ghost use Rattle.placing.specs.Pooling.{farthestOffset};
 ghost use Rattle.type_equality.specs.Trees.{treeAt, membersAt};
 ghost use Rattle.type_placing.specs.Writing.{countWithin};
-ghost use Rattle.type_placing.specs.Room.{Room};
+ghost use Rattle.type_placing.specs.Room.{NodeRoom};
 ghost use Rattle.type_placing.specs.TypePlaced.{TypeWritten, MemberTypePlaced, MembersPlaced};
 use crate::Passed;
 use crate::Span;
@@ -36,7 +36,7 @@ fn place_type_name<'a>(
     at: usize,
 ) -> Spot
     requires { ⌜ Short (now chunk) (now edits) ⌝ }
-    requires { ⌜ Ready (now chunk) (now edits) (now s) ⌝ }
+    requires { ⌜ PoolsReady (now chunk) (now edits) (now s) ⌝ }
     requires { ⌜ entryCount (innerPool (now s)) < innerRoom ⌝ }
     requires { ⌜ at ≤ farthestOffset ⌝ }
     ensures { λ r. ⌜ TextPlaced (now (chunk .entry)) (now (edits .entry)) (unlessEmpty (textOracle (now (chunk .entry)) (now (edits .entry)) .name-length name) (placeInnerName (textOracle (now (chunk .entry)) (now (edits .entry))) name)) at innerPool innerStart defaultsStart (now (s .entry)) (now (s .exit)) (now (out .entry)) (now (out .exit)) r ⌝ }
@@ -71,8 +71,8 @@ pub fn write_type<'a>(
     sm5: bool,
 ) -> Span
     requires { ⌜ Short (now chunk) (now edits) ⌝ }
-    requires { ⌜ Ready (now chunk) (now edits) (now s) ⌝ }
-    requires { ⌜ Room (now s) k 1 at (base + n) sp ⌝ }
+    requires { ⌜ PoolsReady (now chunk) (now edits) (now s) ⌝ }
+    requires { ⌜ NodeRoom (now s) k 1 at (base + n) sp ⌝ }
     requires { ⌜ treeAt (now types) levels k .next ≤ typeRoom ⌝ }
     ensures { λ r. ⌜ TypeWritten (now (chunk .entry)) (now (edits .entry)) (now (types .entry)) sm5 levels k base n at sp (now (s .entry)) (now (s .exit)) (now (out .entry)) (now (out .exit)) r ⌝ }
 {
@@ -122,8 +122,8 @@ fn place_members<'a>(
     sm5: bool,
 ) -> Passed
     requires { ⌜ Short (now chunk) (now edits) ⌝ }
-    requires { ⌜ Ready (now chunk) (now edits) (now s) ⌝ }
-    requires { ⌜ Room (now s) k 0 at (base + n) sp ⌝ }
+    requires { ⌜ PoolsReady (now chunk) (now edits) (now s) ⌝ }
+    requires { ⌜ NodeRoom (now s) k 0 at (base + n) sp ⌝ }
     requires { ⌜ membersAt (treeAt (now types) (levels - 1)) (now types) count k .next ≤ typeRoom ⌝ }
     requires { ⌜ (levels ≡ 0 → count ≡ 0) ⌝ }
     ensures { λ r. ⌜ MembersPlaced (now (chunk .entry)) (now (edits .entry)) (now (types .entry)) sm5 levels count k base n at sp (now (s .entry)) (now (s .exit)) (now (out .entry)) (now (out .exit)) r ⌝ }
@@ -184,8 +184,8 @@ fn place_member_type<'a>(
     sm5: bool,
 ) -> Span
     requires { ⌜ Short (now chunk) (now edits) ⌝ }
-    requires { ⌜ Ready (now chunk) (now edits) (now s) ⌝ }
-    requires { ⌜ Room (now s) k 1 at (base + n) sp ⌝ }
+    requires { ⌜ PoolsReady (now chunk) (now edits) (now s) ⌝ }
+    requires { ⌜ NodeRoom (now s) k 1 at (base + n) sp ⌝ }
     requires { ⌜ treeAt (now types) levels k .next ≤ typeRoom ⌝ }
     ensures { λ r. ⌜ MemberTypePlaced (now (chunk .entry)) (now (edits .entry)) (now (types .entry)) sm5 levels k base n at sp (now (s .entry)) (now (s .exit)) (now (out .entry)) (now (out .exit)) r ⌝ }
 {

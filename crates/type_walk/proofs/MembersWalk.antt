@@ -20,7 +20,7 @@ use Rattle.reading.specs.Step.{Room, room}
 use Rattle.type_walk.specs.declared.Walk.{Walk}
 use Rattle.type_walk.specs.declared.Walk.the-variants.{Next, Refused}
 use Rattle.type_walk.specs.Progress.{Progress, onward}
-use Rattle.type_walk.specs.Walk.{turned, typeProgress, membersProgress, answered, Walked}
+use Rattle.type_walk.specs.Walk.{turned, typeProgress, membersProgress, answered, TypeWalked}
 use Rattle.type_walk.proofs.Members.{members-none, members-short, members-bad, members-on}
 
 -- The loop's invariant: from the table and the path at entry (types₀, path₀) the walk came to these, with node `next` free and `left` members left,
@@ -53,14 +53,14 @@ module _ {s : List ℕ} {sm5 : Bool} {first count levels capacity n : ℕ} {type
   abbrev whole : Room → Progress (List ℕ)
   whole = membersProgress s sm5 levels path-in count first (take (n * typeWidth) types₀)
 
-  pub ends : left ≤ 0 → Walked whole levels capacity n types₀ types path₀ path (Next next)
+  pub ends : left ≤ 0 → TypeWalked whole levels capacity n types₀ types path₀ path (Next next)
   ends none = record {
     outcome = λ b f v. g .same b f v ∙ members-none s sm5 levels path-in at sofar (room b f v (capacity - next)) left none;
     grew = record { low = g .low; high = g .high };
     above = g .above;
   }
 
-  pub ends-short : 0 < left → inside (length s) at memberStride ≡ false → Walked whole levels capacity n types₀ types path₀ path (Refused (because recordPastEnd))
+  pub ends-short : 0 < left → inside (length s) at memberStride ≡ false → TypeWalked whole levels capacity n types₀ types path₀ path (Refused (because recordPastEnd))
   ends-short more short = record {
     outcome = λ b f v. g .same b f v ∙ members-short s sm5 levels path-in at sofar (room b f v (capacity - next)) left more short;
     grew = tt;
@@ -68,7 +68,7 @@ module _ {s : List ℕ} {sm5 : Bool} {first count levels capacity n : ℕ} {type
   }
 
   pub ends-bad : 0 < left → inside (length s) at memberStride ≡ true → cstringAt s (wordAt s at) ≡ Bad
-      → Walked whole levels capacity n types₀ types path₀ path (Refused (because badName))
+      → TypeWalked whole levels capacity n types₀ types path₀ path (Refused (because badName))
   ends-bad more fits bad = record {
     outcome = λ b f v. g .same b f v ∙ members-bad s sm5 levels path-in at sofar (room b f v (capacity - next)) left more fits bad;
     grew = tt;
@@ -79,7 +79,7 @@ module _ {s : List ℕ} {sm5 : Bool} {first count levels capacity n : ℕ} {type
   module _ {place k below offset : ℕ} {name : Text} (m : MemberAt s at left place k below offset) (is-name : name ≡ inChunk place k) where
     abbrev type-walked : List ℕ → List ℕ → Walk → Type 0
     type-walked types′ path′ r =
-        Walked (typeProgress s sm5 levels (turned (take (typeLevels - levels) path)) below name offset sofar)
+        TypeWalked (typeProgress s sm5 levels (turned (take (typeLevels - levels) path)) below name offset sofar)
         levels capacity next types types′ path path′ r
 
     after : (types′ path′ : List ℕ) (r : Walk) → type-walked types′ path′ r → (b f v : ℕ)
@@ -96,7 +96,7 @@ module _ {s : List ℕ} {sm5 : Bool} {first count levels capacity n : ℕ} {type
         ∙ ap then (w .outcome b f v)
 
     pub ends-below : {types′ path′ : List ℕ} {r : Walk} {e : Refusal} → r ≡ Refused e → type-walked types′ path′ r
-        → Walked whole levels capacity n types₀ types′ path₀ path′ (Refused e)
+        → TypeWalked whole levels capacity n types₀ types′ path₀ path′ (Refused e)
     ends-below {types′} {path′} {r} {e} is-refused walked =
         let w : type-walked types′ path′ (Refused e) = subst (type-walked types′ path′) is-refused walked in
         record { outcome = after types′ path′ (Refused e) w; grew = tt; above = w .above ∙ g .above }

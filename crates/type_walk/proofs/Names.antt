@@ -7,7 +7,7 @@ use native.Mathlib.Omega.{arith}
 use Rattle.words.specs.Words.{wordAt}
 use Rattle.text.specs.declared.Found.{Found}
 use Rattle.text.specs.declared.Found.the-variants.{At, Bad}
-use Rattle.text.specs.Strings.{cstringAt, Within}
+use Rattle.text.specs.Strings.{cstringAt, FoundWithin}
 use Rattle.reading.specs.Read.{cstringOrEmpty, typeNameAt}
 
 module _ (s : List ℕ) (sm5 : Bool) (at : ℕ) where
@@ -28,6 +28,6 @@ module _ (s : List ℕ) (sm5 : Bool) (at : ℕ) where
       go (suc k) h = refl
 
 -- What lies within n bytes lies within more.
-pub within-more : {n m : ℕ} (found : Found) → Within n found → n ≤ m → Within m found
+pub within-more : {n m : ℕ} (found : Found) → FoundWithin n found → n ≤ m → FoundWithin m found
 within-more (At place k) within h = omega arith
 within-more Bad within h = tt

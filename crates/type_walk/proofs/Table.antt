@@ -5,7 +5,7 @@ use Prim.Native.Nat.{ℕ, _+_, _*_, _/_, _<_}
 use lib.ListN.{length, take}
 use Rattle.words.proofs.Records.{take-record}
 use Rattle.reflection.specs.declared.TypeDesc.{TypeDesc}
-use Rattle.reflection.specs.Records.{putRecord, typeWords, typeWidth}
+use Rattle.reflection.specs.Records.{putRecord, typeWordsInTable, typeWidth}
 use Rattle.reflection.proofs.Records.{record-inside, put-inside}
 
 pub record-appended : (width : ℕ) (t : List ℕ) (i : ℕ) (words : List ℕ) → i < length t / width → length words ≡ width
@@ -14,6 +14,6 @@ record-appended width t i words free whole =
     ap (take ((i + 1) * width)) (put-inside width t i words free) ∙ take-record t i width words whole (record-inside width (length t) i free)
 
 pub node-appended : (types : List ℕ) (n : ℕ) (node : TypeDesc) → n < length types / typeWidth
-    → take ((n + 1) * typeWidth) (putRecord typeWidth types n (typeWords node)) ≡ take (n * typeWidth) types ++ typeWords node
-unfolding typeWords
-node-appended types n node free = record-appended typeWidth types n (typeWords node) free refl
+    → take ((n + 1) * typeWidth) (putRecord typeWidth types n (typeWordsInTable node)) ≡ take (n * typeWidth) types ++ typeWordsInTable node
+unfolding typeWordsInTable
+node-appended types n node free = record-appended typeWidth types n (typeWordsInTable node) free refl

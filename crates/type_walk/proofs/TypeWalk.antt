@@ -15,14 +15,14 @@ use Rattle.reflection.specs.Refusals.{recordPastEnd, badName, typeTooDeep, type
 use Rattle.reflection.specs.declared.Refusal.{Refusal}
 use Rattle.reflection.specs.declared.Text.{Text}
 use Rattle.reflection.specs.Outcome.{because}
-use Rattle.reflection.specs.Records.{typeWords, typeWidth, putRecord}
+use Rattle.reflection.specs.Records.{typeWordsInTable, typeWidth, putRecord}
 use Rattle.reflection.specs.Tables.{typeRecord}
 use Rattle.reading.specs.Step.{Room, room}
 use Rattle.reading.specs.Read.{onPath, typeStride, typeNameAt}
 use Rattle.type_walk.specs.declared.Walk.{Walk}
 use Rattle.type_walk.specs.declared.Walk.the-variants.{Next, Refused}
 use Rattle.type_walk.specs.Progress.{Progress}
-use Rattle.type_walk.specs.Walk.{nodeFrom, turned, typeProgress, membersProgress, answered, Ready, Walked}
+use Rattle.type_walk.specs.Walk.{nodeFromChunk, turned, typeProgress, membersProgress, answered, WalkReady, TypeWalked}
 use Rattle.type_walk.proofs.Path.{on-turned, turned-longer, take-less}
 use Rattle.type_walk.proofs.Table.{node-appended}
 use Rattle.type_walk.proofs.Types.{unlessBad, type-deep, type-cycle, type-full, type-short, type-in}
@@ -31,7 +31,7 @@ one-taken : (n capacity : ℕ) → n < capacity → capacity - n ≡ suc (capaci
 one-taken n capacity free = omega arith
 
 -- The tests of a type, in the order of the walk: depth, path, room, range. The tables stay as they were where one fails.
-module _ {s : List ℕ} {levels capacity n : ℕ} {types path : List ℕ} (ready : Ready s levels capacity n types path)
+module _ {s : List ℕ} {levels capacity n : ℕ} {types path : List ℕ} (ready : WalkReady s levels capacity n types path)
     (sm5 : Bool) (at : ℕ) (mn : Text) (mo : ℕ) where
   abbrev path-in : List ℕ
   path-in = take (typeLevels - levels) path
@@ -40,7 +40,7 @@ module _ {s : List ℕ} {levels capacity n : ℕ} {types path : List ℕ} (ready
   sofar = take (n * typeWidth) types
 
   abbrev refuses : ℕ → Type 0
-  refuses e = Walked (typeProgress s sm5 levels (turned path-in) at mn mo sofar) levels capacity n types types path path (Refused (because e))
+  refuses e = TypeWalked (typeProgress s sm5 levels (turned path-in) at mn mo sofar) levels capacity n types types path path (Refused (because e))
 
   pub stops-deep : levels ≡ 0 → refuses typeTooDeep
   stops-deep deep =
@@ -75,12 +75,12 @@ module _ {s : List ℕ} {levels capacity n : ℕ} {types path : List ℕ} (ready
 
 -- The type passed its tests, its node is written, and `count` members lie from `first` on.
 pub record Entered (s : List ℕ) (sm5 : Bool) (at : ℕ) (mn : Text) (mo levels capacity n : ℕ) (types path types₁ : List ℕ) (count first : ℕ) : Type 0 where
-  pub ready : Ready s levels capacity n types path
+  pub ready : WalkReady s levels capacity n types path
   pub level : levels ≡ 0 → ⊥
   pub fresh : onPath at (take (typeLevels - levels) path) ≡ false
   pub free : n < capacity
   pub fits : inside (length s) at (typeStride sm5) ≡ true
-  pub put : types₁ ≡ putRecord typeWidth types n (typeWords (typeRecord (nodeFrom s sm5 at mn mo)))
+  pub put : types₁ ≡ putRecord typeWidth types n (typeWordsInTable (typeRecord (nodeFromChunk s sm5 at mn mo)))
   pub is-count : count ≡ highAt s (at + 8)
   pub is-first : first ≡ wordAt s (at + 12)
 
@@ -93,7 +93,7 @@ module _ {s : List ℕ} {sm5 : Bool} {at : ℕ} {mn : Text} {mo levels capacity 
   written = take (n * typeWidth) types
 
   abbrev node : List ℕ
-  node = typeWords (typeRecord (nodeFrom s sm5 at mn mo))
+  node = typeWordsInTable (typeRecord (nodeFromChunk s sm5 at mn mo))
 
   abbrev path₁ : List ℕ
   path₁ = set path (typeLevels - levels) at
@@ -102,7 +102,7 @@ module _ {s : List ℕ} {sm5 : Bool} {at : ℕ} {mn : Text} {mo levels capacity 
   whole = typeProgress s sm5 levels (turned above) at mn mo written
 
   node-put : take ((n + 1) * typeWidth) types₁ ≡ written ++ node
-  node-put = ap (take ((n + 1) * typeWidth)) (e .put) ∙ node-appended types n (typeRecord (nodeFrom s sm5 at mn mo)) (omega (arith, e .free, e .ready .fits))
+  node-put = ap (take ((n + 1) * typeWidth)) (e .put) ∙ node-appended types n (typeRecord (nodeFromChunk s sm5 at mn mo)) (omega (arith, e .free, e .ready .fits))
 
   one-deeper : typeLevels - (levels - 1) ≡ suc (typeLevels - levels)
   one-deeper = omega (arith, e .ready .levels-fit, e .level)
@@ -116,7 +116,7 @@ module _ {s : List ℕ} {sm5 : Bool} {at : ℕ} {mn : Text} {mo levels capacity 
   -- The members were walked, and left types₂ and path₂.
   abbrev members-walked : List ℕ → List ℕ → Walk → Type 0
   members-walked types₂ path₂ r =
-      Walked (membersProgress s sm5 (levels - 1) (turned (take (typeLevels - (levels - 1)) path₁)) count first (take ((n + 1) * typeWidth) types₁))
+      TypeWalked (membersProgress s sm5 (levels - 1) (turned (take (typeLevels - (levels - 1)) path₁)) count first (take ((n + 1) * typeWidth) types₁))
       (levels - 1) capacity (n + 1) types₁ types₂ path₁ path₂ r
 
   after : (types₂ path₂ : List ℕ) (r : Walk) → members-walked types₂ path₂ r → (b f v : ℕ)
@@ -141,13 +141,13 @@ module _ {s : List ℕ} {sm5 : Bool} {at : ℕ} {mn : Text} {mo levels capacity 
       ∙ take-set-le (typeLevels - levels) path (typeLevels - levels) at (omega arith)
 
   module _ {types₂ path₂ : List ℕ} {r : Walk} where
-    pub stops-inside : {x : Refusal} → r ≡ Refused x → members-walked types₂ path₂ r → Walked whole levels capacity n types types₂ path path₂ (Refused x)
+    pub stops-inside : {x : Refusal} → r ≡ Refused x → members-walked types₂ path₂ r → TypeWalked whole levels capacity n types types₂ path path₂ (Refused x)
     stops-inside {x} is-refused walked =
         let w : members-walked types₂ path₂ (Refused x) = subst (members-walked types₂ path₂) is-refused walked in
         record { outcome = after types₂ path₂ (Refused x) w; grew = tt; above = path-kept path₂ (w .above) }
 
     pub stops-unnamed : {m : ℕ} → r ≡ Next m → members-walked types₂ path₂ r → typeNameAt s sm5 at ≡ Bad
-        → Walked whole levels capacity n types types₂ path path₂ (Refused (because badName))
+        → TypeWalked whole levels capacity n types types₂ path path₂ (Refused (because badName))
     stops-unnamed {m} is-next walked bad =
         let w : members-walked types₂ path₂ (Next m) = subst (members-walked types₂ path₂) is-next walked in
         record {
@@ -158,7 +158,7 @@ module _ {s : List ℕ} {sm5 : Bool} {at : ℕ} {mn : Text} {mo levels capacity 
         }
 
     pub arrives : {m place k : ℕ} → r ≡ Next m → members-walked types₂ path₂ r → typeNameAt s sm5 at ≡ At place k
-        → Walked whole levels capacity n types types₂ path path₂ (Next m)
+        → TypeWalked whole levels capacity n types types₂ path path₂ (Next m)
     arrives {m} is-next walked named =
         let w : members-walked types₂ path₂ (Next m) = subst (members-walked types₂ path₂) is-next walked in
         record {

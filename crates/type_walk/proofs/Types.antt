@@ -13,13 +13,13 @@ use Rattle.reflection.specs.Refusals.{recordPastEnd, badName, typeTooDeep, type
 use Rattle.reflection.specs.declared.Text.{Text}
 use Rattle.reflection.specs.Outcome.{Outcome, ok, refused, because}
 use Rattle.reflection.specs.Reflection.{TypeDesc, typeDesc, Members, memberCount}
-use Rattle.reflection.specs.Records.{typeWords}
+use Rattle.reflection.specs.Records.{typeWordsInTable}
 use Rattle.reflection.specs.Tables.{typeRecord}
 use Rattle.reading.specs.Step.{Room, room, andThen, _>>=_, return, refuse, textOr}
 use Rattle.reading.specs.Read.{readMembers, readType, onPath, typeStride, typeNameAt, numbersFrom}
 use Rattle.reading.proofs.Steps.{check-holds, check-fails, bind-is, type-none, type-taken, Gives, members-count}
 use Rattle.type_walk.specs.Progress.{Progress, stopped, reached, progress}
-use Rattle.type_walk.specs.Walk.{appendType, appendMembers, foundText, nodeFrom, typeProgress, membersProgress}
+use Rattle.type_walk.specs.Walk.{appendType, appendMembers, foundText, nodeFromChunk, typeProgress, membersProgress}
 
 -- The type's name is looked at last.
 abbrev pub unlessBad : Found → Progress (List ℕ) → Progress (List ℕ)
@@ -56,8 +56,8 @@ module _ (s : List ℕ) (sm5 : Bool) (path : List ℕ) (at : ℕ) (mn : Text) (m
   pub type-in : (t levels : ℕ) → (levels ≡ 0 → ⊥) → onPath at path ≡ false → inside (length s) at (typeStride sm5) ≡ true
       → typeProgress s sm5 levels path at mn mo w (room b f v (suc t))
       ≡ unlessBad (typeNameAt s sm5 at)
-      (membersProgress s sm5 (levels - 1) (at ∷ path) (highAt s (at + 8)) (wordAt s (at + 12)) (w ++ typeWords (typeRecord (nodeFrom s sm5 at mn mo))) (room b f v t))
-  unfolding typeProgress membersProgress readType return refuse textOr appendType nodeFrom
+      (membersProgress s sm5 (levels - 1) (at ∷ path) (highAt s (at + 8)) (wordAt s (at + 12)) (w ++ typeWordsInTable (typeRecord (nodeFromChunk s sm5 at mn mo))) (room b f v t))
+  unfolding typeProgress membersProgress readType return refuse textOr appendType nodeFromChunk
   type-in t zero some new fits = absurd (some refl)
   type-in t (suc levels) some new fits =
       ap (λ (x : Outcome (TypeDesc Text × Room)). progress (appendType mn mo) x w)
@@ -80,7 +80,7 @@ module _ (s : List ℕ) (sm5 : Bool) (path : List ℕ) (at : ℕ) (mn : Text) (m
 
       node : ℕ → Found → List ℕ
       node k name =
-          typeWords (typeRecord (record { numbers = numbersFrom s sm5 at; member-count = k; name = foundText name; member-name = mn; member-offset = mo }))
+          typeWordsInTable (typeRecord (record { numbers = numbersFrom s sm5 at; member-count = k; name = foundText name; member-name = mn; member-offset = mo }))
 
       after-name : (name : Found) (ms : Members Text) (r : Room) → memberCount ms ≡ count
           → progress (appendType mn mo) (andThen (textOr badName name r) (λ x. return (typeDesc (numbersFrom s sm5 at) x ms))) w

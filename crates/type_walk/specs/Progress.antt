@@ -1,3 +1,4 @@
+-- Vocabulary of internal contracts: no contract of an exported function and no demand cites it.
 -- How far a walk came, in words of the tables: what the contracts of the walks say. Each is made from the definition of reading and a function
 -- that appends what was read; there is no second definition of the walk.
 use mathlib.Core.List.{List, [], _∷_}

@@ -1,3 +1,4 @@
+-- Vocabulary of internal contracts: no contract of an exported function and no demand cites it.
 -- The walk of a type: what it is given, and what it leaves.
 use mathlib.Core.Path.{_≡_}
 use mathlib.Core.Bool.{Bool}
@@ -12,7 +13,7 @@ use Rattle.reflection.specs.declared.Text.{Text}
 use Rattle.reflection.specs.Reflection.{TypeDesc, typeDesc, Members, noMember, member, memberCount}
 use Rattle.reflection.specs.Texts.{inChunk}
 use Rattle.reflection.specs.Nodes.{Node}
-use Rattle.reflection.specs.Records.{typeWords}
+use Rattle.reflection.specs.Records.{typeWordsInTable}
 use Rattle.reflection.specs.Tables.{typeRecord}
 use Rattle.reading.specs.Step.{Room, room}
 use Rattle.reading.specs.Read.{readType, readMembers, numbersFrom, typeNameAt}
@@ -24,7 +25,7 @@ use Rattle.type_walk.specs.Progress.{Progress, stopped, reached, progres
 unfoldable mutual
   pub appendType : Text → ℕ → TypeDesc Text → List ℕ → List ℕ
   appendType mn mo (typeDesc k n ms) w =
-      appendMembers ms (w ++ typeWords (typeRecord (record { numbers = k; member-count = memberCount ms; name = n; member-name = mn; member-offset = mo })))
+      appendMembers ms (w ++ typeWordsInTable (typeRecord (record { numbers = k; member-count = memberCount ms; name = n; member-name = mn; member-offset = mo })))
 
   pub appendMembers : Members Text → List ℕ → List ℕ
   appendMembers noMember w = w
@@ -36,8 +37,8 @@ foundText (At place n) = inChunk place n
 foundText Bad = inChunk 0 0
 
 -- The node of the type at an offset, which a member's name and offset lead to.
-unfoldable pub nodeFrom : List ℕ → Bool → ℕ → Text → ℕ → Node Text
-nodeFrom s sm5 at mn mo =
+unfoldable pub nodeFromChunk : List ℕ → Bool → ℕ → Text → ℕ → Node Text
+nodeFromChunk s sm5 at mn mo =
     record { numbers = numbersFrom s sm5 at; member-count = highAt s (at + 8); name = foundText (typeNameAt s sm5 at); member-name = mn; member-offset = mo }
 
 -- The path from the root, which the code keeps root first, as the definition has it: the nearest descriptor first.
@@ -56,7 +57,7 @@ unfoldable pub membersProgress : List ℕ → Bool → ℕ → List ℕ → ℕ 
 membersProgress s sm5 levels path n at w r = progress appendMembers (readMembers (λ below. readType s sm5 levels path below) s n at r) w
 
 -- What a walk is given: a chunk whose places fit a word, the levels left, the path, room for `capacity` nodes, of which n are taken.
-pub record Ready (s : List ℕ) (levels capacity n : ℕ) (types path : List ℕ) : Type 0 where
+pub record WalkReady (s : List ℕ) (levels capacity n : ℕ) (types path : List ℕ) : Type 0 where
   pub chunk : length s ≤ chunkLimit
   pub levels-fit : levels ≤ typeLevels
   pub path-is : length path ≡ typeLevels
@@ -73,7 +74,7 @@ GrewTo capacity n (Next m) = Grew capacity n m
 GrewTo capacity n (Refused e) = Unit
 
 -- What a walk leaves: its progress, whatever room the other tables have, and the path down to its own level as it was.
-pub record Walked (out : Room → Progress (List ℕ)) (levels capacity n : ℕ) (types types′ path path′ : List ℕ) (r : Walk) : Type 0 where
+pub record TypeWalked (out : Room → Progress (List ℕ)) (levels capacity n : ℕ) (types types′ path path′ : List ℕ) (r : Walk) : Type 0 where
   pub outcome : (b f v : ℕ) → out (room b f v (capacity - n)) ≡ answered capacity r types′ (room b f v)
   pub grew : GrewTo capacity n r
   pub above : take (typeLevels - levels) path′ ≡ take (typeLevels - levels) path

@@ -2,11 +2,11 @@
 ghost use mathlib.Core.Path.{_≡_};
 ghost use Prim.Native.Nat.{_*_, _-_, _≤_};
 ghost use lib.ListN.{length, take};
-ghost use Rattle.text.specs.Strings.{Within};
+ghost use Rattle.text.specs.Strings.{FoundWithin};
 ghost use Rattle.reflection.specs.Limits.{chunkLimit, typeLevels, typeWidth};
 ghost use Rattle.reflection.specs.Tables.{typeRecord};
 ghost use Rattle.reading.specs.Read.{typeStride, wordIf, typeNameAt, onPath};
-ghost use Rattle.type_walk.specs.Walk.{foundText, nodeFrom, turned, typeProgress, membersProgress, Ready, Walked};
+ghost use Rattle.type_walk.specs.Walk.{foundText, nodeFromChunk, turned, typeProgress, membersProgress, WalkReady, TypeWalked};
 use reflection::BAD_NAME;
 use reflection::MEMBER_STRIDE;
 use reflection::NO_ROOM;
@@ -54,7 +54,7 @@ fn type_stride(sm5: bool) -> usize
 
 // The name of the type at `at`: only major 5 has one, and offset 0 means empty.
 fn type_name_at(s: &[u8], at: u32, sm5: bool) -> Found
-    ensures { λ r. ⌜ (r ≡ typeNameAt (now (s .entry)) sm5 at) × Within (length (now (s .entry))) r ⌝ }
+    ensures { λ r. ⌜ (r ≡ typeNameAt (now (s .entry)) sm5 at) × FoundWithin (length (now (s .entry))) r ⌝ }
 {
     if sm5 {
         let base = at as usize;
@@ -71,7 +71,7 @@ fn type_name_at(s: &[u8], at: u32, sm5: bool) -> Found
 
 // What was found, as a text of the chunk; empty where it is bad.
 fn found_text(found: Found) -> Text
-    requires { ⌜ Within chunkLimit found ⌝ }
+    requires { ⌜ FoundWithin chunkLimit found ⌝ }
     ensures { λ r. ⌜ r ≡ foundText found ⌝ }
 {
     match found {
@@ -83,7 +83,7 @@ fn found_text(found: Found) -> Text
 // The node of the type at `at`, whose name is known and which `member` leads to.
 fn type_node(s: &[u8], at: u32, sm5: bool, name: Text, member: Member) -> TypeDesc
     requires { ⌜ name ≡ foundText (typeNameAt (now s) sm5 at) ⌝ }
-    ensures { λ r. ⌜ r ≡ typeRecord (nodeFrom (now (s .entry)) sm5 at (member .name) (member .offset)) ⌝ }
+    ensures { λ r. ⌜ r ≡ typeRecord (nodeFromChunk (now (s .entry)) sm5 at (member .name) (member .offset)) ⌝ }
 {
     let base = at as usize;
     let member_name = member.name;
@@ -131,8 +131,8 @@ pub fn walk_type(
     path: &mut [u32],
     n: usize,
 ) -> Walk
-    requires { ⌜ Ready (now s) levels capacity n (now types) (now path) ⌝ }
-    ensures { λ r. ⌜ Walked
+    requires { ⌜ WalkReady (now s) levels capacity n (now types) (now path) ⌝ }
+    ensures { λ r. ⌜ TypeWalked
         (typeProgress (now (s .entry)) sm5 levels (turned (take (typeLevels - levels) (now (path .entry)))) at (member .name) (member .offset) (take (n * typeWidth) (now (types .entry))))
         levels capacity n (now (types .entry)) (now (types .exit)) (now (path .entry)) (now (path .exit)) r ⌝ }
 {
@@ -194,8 +194,8 @@ fn walk_members(
     path: &mut [u32],
     n: usize,
 ) -> Walk
-    requires { ⌜ Ready (now s) levels capacity n (now types) (now path) ⌝ }
-    ensures { λ r. ⌜ Walked
+    requires { ⌜ WalkReady (now s) levels capacity n (now types) (now path) ⌝ }
+    ensures { λ r. ⌜ TypeWalked
         (membersProgress (now (s .entry)) sm5 levels (turned (take (typeLevels - levels) (now (path .entry)))) count first (take (n * typeWidth) (now (types .entry))))
         levels capacity n (now (types .entry)) (now (types .exit)) (now (path .entry)) (now (path .exit)) r ⌝ }
 {

@@ -1,14 +1,74 @@
--- What a write leaves as it was and what it puts there, and writes that reach the end of the list: what lies past it is dropped.
+-- The laws of `splice` and `Put`: writes compose, keep the length, leave what lies before and after as it was; what lies past the end is dropped.
 use mathlib.Core.Path.{_≡_, refl, sym, ap, _∙_}
 use mathlib.Core.List.{List, [], _∷_, _++_, append-nil}
 use Prim.Native.Nat.{ℕ, zero, suc, _+_, _-_, _≤_, _<_, min}
+use native.Mathlib.Nat.{add-zero, add-suc, suc-add}
 use native.Mathlib.Numerals.{add-one}
 use native.Mathlib.Omega.{arith}
 use lib.ListN.{length, getD, set, take, drop, replicate, length-set, length-append, drop-of-length-le, length-replicate, replicate-append-replicate}
-use lib.Seq.{set-out, take-all, take-suc, take-at, drop-at, length-take-le, getD-set-other, getD-take, getD-append-add}
-use Rattle.words.specs.Splice.{splice, splice-nil, splice-cons, splice-eq, splice-snoc}
+use lib.Seq.{sets, length-sets, sets-eq, set-out, take-all, take-suc, take-at, drop-at, length-take-le, getD-set-other, getD-take, getD-append-add}
+use Rattle.words.specs.Splice.{splice, Put}
 
 module _ {ℓ} {A : Type ℓ} where
+  pub splice-nil : (l : List A) (a : ℕ) → splice l a [] ≡ l
+  unfolding splice
+  splice-nil l a = refl
+
+  pub splice-cons : (l : List A) (a : ℕ) (x : A) (xs : List A) → splice l a (x ∷ xs) ≡ splice (set l a x) (suc a) xs
+  unfolding splice
+  splice-cons l a x xs = refl
+
+  pub splice-one : (l : List A) (a : ℕ) (x : A) → splice l a (x ∷ []) ≡ set l a x
+  unfolding splice
+  splice-one l a x = refl
+
+  pub length-splice : (l : List A) (a : ℕ) (xs : List A) → length (splice l a xs) ≡ length l
+  unfolding splice
+  length-splice l a xs = length-sets l a xs
+
+  -- two writes in a row are one
+  pub splice-append : (l : List A) (a : ℕ) (xs ys : List A) → splice (splice l a xs) (a + length xs) ys ≡ splice l a (xs ++ ys)
+  unfolding splice
+  splice-append l a [] ys = ap (λ (k : ℕ). sets l k ys) (add-zero a)
+  splice-append l a (x ∷ xs) ys =
+      ap (λ (k : ℕ). sets (sets (set l a x) (suc a) xs) k ys) (add-suc a (length xs) ∙ sym (suc-add a (length xs)))
+      ∙ splice-append (set l a x) (suc a) xs ys
+
+  -- one element more, where the run's length is known by an equation: a turn of a loop that appends
+  pub splice-snoc : (l : List A) (a : ℕ) (xs : List A) (x : A) (n : ℕ) → length xs ≡ n → set (splice l a xs) (a + n) x ≡ splice l a (xs ++ (x ∷ []))
+  splice-snoc l a xs x n e =
+      ap (λ (k : ℕ). set (splice l a xs) (a + k) x) (sym e) ∙ sym (splice-one (splice l a xs) (a + length xs) x) ∙ splice-append l a xs (x ∷ [])
+
+  -- where there is room: what is before, what was written, what is after
+  pub splice-eq : (l : List A) (a : ℕ) (xs : List A) → a + length xs ≤ length l → splice l a xs ≡ take a l ++ xs ++ drop (a + length xs) l
+  unfolding splice
+  splice-eq l a xs h = sets-eq xs l a h
+
+  pub put-none : (l : List A) (a : ℕ) → Put l a [] l a
+  put-none l a = record { list = sym (splice-nil l a); next = sym (add-zero a) }
+
+  pub put-then : {l l₁ l₂ xs ys : List A} {a r₁ r₂ : ℕ} → Put l a xs l₁ r₁ → Put l₁ r₁ ys l₂ r₂ → Put l a (xs ++ ys) l₂ r₂
+  put-then {l} {l₁} {l₂} {xs} {ys} {a} {r₁} {r₂} p q =
+      record {
+        list =
+            q .list
+            ∙ ap (λ (k : ℕ). splice l₁ k ys) (p .next)
+            ∙ ap (λ (m : List A). splice m (a + length xs) ys) (p .list)
+            ∙ splice-append l a xs ys;
+        next = omega (arith, p .next, q .next, length-append xs ys);
+      }
+
+  pub put-one : (l : List A) (a : ℕ) (x : A) → Put l a (x ∷ []) (set l a x) (a + 1)
+  put-one l a x = record { list = sym (splice-one l a x); next = refl }
+
+  -- a turn of a loop that appends one element
+  pub put-snoc : {l l′ xs : List A} {a r : ℕ} → Put l a xs l′ r → (x : A) → Put l a (xs ++ (x ∷ [])) (set l′ r x) (r + 1)
+  put-snoc {l′ = l′} {r = r} p x = put-then p (put-one l′ r x)
+
+  -- the buffer keeps its length
+  pub put-length : {l l′ xs : List A} {a r : ℕ} → Put l a xs l′ r → length l′ ≡ length l
+  put-length {l} {l′} {xs} {a} {r} p = ap length (p .list) ∙ length-splice l a xs
+
   pub splice-past-end : (l : List A) (a : ℕ) (xs : List A) → length l ≤ a → splice l a xs ≡ l
   splice-past-end l a [] h = splice-nil l a
   splice-past-end l a (x ∷ xs) h =

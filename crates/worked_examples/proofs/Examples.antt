@@ -76,7 +76,7 @@ unfolding Read.wordIf Read.readMany Read.onPath Read.readMembers Read.cstringOrE
 types-read = tt
 
 unfoldable chunks-read : Unit {0}
-unfolding types-read Read.defaultAt Read.variableFrom Read.readVariable Read.bufferFrom Read.readBuffer Read.bindingFrom Read.readBinding Rd11.rd11Allowed Read.readRd11 Read.readTables Read.readChunk Read.read
+unfolding types-read Read.defaultAt Read.variableFromChunk Read.readVariable Read.bufferFromChunk Read.readBuffer Read.bindingFromChunk Read.readBinding Rd11.rd11Allowed Read.readRd11 Read.readTables Read.readChunk Read.read
 chunks-read = tt
 
 unfoldable parts-readable : Unit {0}
@@ -92,7 +92,7 @@ unfolding Step._>>=_ Step.return Step.append Step.remember Step.paddingAt Step.p
 writing-steps = tt
 
 unfoldable records : Unit {0}
-unfolding Records.halves Records.typeWords Records.variableWords Records.bufferWords Records.bindingWords Records.rd11Words Records.headerWords Records.rows
+unfolding Records.halves Records.typeWordsInChunk Records.variableWordsInChunk Records.bufferWordsInChunk Records.bindingWordsInChunk Records.rd11Words Records.headerWordsInChunk Records.rows
 records = tt
 
 unfoldable same : Unit {0}

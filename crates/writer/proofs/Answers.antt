@@ -15,9 +15,10 @@ use Rattle.reflection.specs.declared.ResourceDef.{ResourceDef as Header}
 use Rattle.reflection.specs.Outcome.{ok, refused, because}
 use Rattle.reflection.specs.Reflection.{ResourceDef}
 use Rattle.reflection.specs.Contents.{Bytes, contents}
-use Rattle.readable.specs.Readable.{held, readable, isReadable, readableContents}
+use Rattle.readable.specs.Readable.{tableContents, readable, isReadable, readableContents}
 use Rattle.readable.proofs.ReadableTables.{Readable}
-use Rattle.emit.specs.Written.{fitsIn, fitting, writtenOf, outputOf, finished, kept}
+use Rattle.emit.specs.Written.{fitsIn, fitting, writtenOf, outputOf}
+use Rattle.emit.specs.Cursor.{finished, kept}
 use Rattle.emit.proofs.Fitting.{finished-answer, finished-output}
 use Rattle.writing.specs.Canonical.{canonical}
 use Rattle.table_placing.specs.Chunk.{TooLong}
@@ -51,12 +52,12 @@ module _ (scratch room : ℕ) where
 
   module _ (chunk edits : Bytes) (h : Header) (bindings buffers variables types : List ℕ) (enough : scratchSize ≤ scratch) where
     pub unreadable : readable chunk edits h bindings buffers variables types ≡ false
-        → write scratch room (held chunk edits h bindings buffers variables types) ≡ refused (because notReadable)
+        → write scratch room (tableContents chunk edits h bindings buffers variables types) ≡ refused (because notReadable)
     unfolding readable fitting
-    unreadable e = enough-scratch (held chunk edits h bindings buffers variables types) enough ∙ ap (fitting room) (not-readable (held chunk edits h bindings buffers variables types) e)
+    unreadable e = enough-scratch (tableContents chunk edits h bindings buffers variables types) enough ∙ ap (fitting room) (not-readable (tableContents chunk edits h bindings buffers variables types) e)
 
     pub writable : (r : Readable chunk edits h bindings buffers variables types)
-        → write scratch room (held chunk edits h bindings buffers variables types) ≡ fitting room (ok (canonical (contents chunk edits (r .def))))
+        → write scratch room (tableContents chunk edits h bindings buffers variables types) ≡ fitting room (ok (canonical (contents chunk edits (r .def))))
     writable r = ap (write scratch room) (r .is-held) ∙ readable-written (contents chunk edits (r .def)) (r .is-readable) enough
 
 longer : (room n : ℕ) → chunkLimit < n → fitsIn room n ≡ false

@@ -10,7 +10,7 @@ use Rattle.reflection.specs.declared.ResourceDef.{ResourceDef as Header}
 use Rattle.reflection.specs.Outcome.{Outcome, ok}
 use Rattle.reflection.specs.Reflection.{ResourceDef}
 use Rattle.reflection.specs.Contents.{Bytes, contents}
-use Rattle.readable.specs.Readable.{held, readableContents}
+use Rattle.readable.specs.Readable.{tableContents, readableContents}
 use Rattle.readable.proofs.Reading.{tables-at-most-full, read-contents, read-held}
 use Rattle.reading.specs.Step.{roomOf}
 use Rattle.reader.specs.Parsed.{readInto}
@@ -29,10 +29,10 @@ module _
     {nb nf nv nt : ℕ}
     {h : Header}
     (loaded : Held (readInto chunk b f v t) nb nf nv nt h bindings buffers variables types) where
-  pub loaded-held : held chunk edits h bindings buffers variables types ≡ some (contents chunk edits (loaded .def))
+  pub loaded-held : tableContents chunk edits h bindings buffers variables types ≡ some (contents chunk edits (loaded .def))
   unfolding readInto
   loaded-held =
-      (λ i. held chunk edits (loaded .header i) (loaded .in-bindings i) (loaded .in-buffers i) (loaded .in-variables i) (loaded .in-types i))
+      (λ i. tableContents chunk edits (loaded .header i) (loaded .in-bindings i) (loaded .in-buffers i) (loaded .in-variables i) (loaded .in-types i))
       ∙ read-held chunk edits bytes (roomOf (length b) (length f) (length v) (length t)) (tables-at-most-full (length b) (length f) (length v) (length t)) (loaded .def) (loaded .is) edits-short nb nf nv nt
 
   loaded-readable : readableContents (contents chunk edits (loaded .def)) ≡ true
@@ -40,6 +40,6 @@ module _
   loaded-readable = read-contents chunk edits bytes (roomOf (length b) (length f) (length v) (length t)) (tables-at-most-full (length b) (length f) (length v) (length t)) (loaded .def) (loaded .is)
 
   pub loaded-written : (scratch room : ℕ) → scratchSize ≤ scratch
-      → write scratch room (held chunk edits h bindings buffers variables types) ≡ fitting room (ok (canonical (contents chunk edits (loaded .def))))
+      → write scratch room (tableContents chunk edits h bindings buffers variables types) ≡ fitting room (ok (canonical (contents chunk edits (loaded .def))))
   loaded-written scratch room enough =
       ap (write scratch room) loaded-held ∙ readable-written scratch room (contents chunk edits (loaded .def)) loaded-readable enough

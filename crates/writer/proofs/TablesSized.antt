@@ -8,7 +8,7 @@ use Rattle.reflection.specs.Contents.{Bytes, contents}
 use Rattle.readable.proofs.ReadableTables.{Readable}
 use Rattle.writing.specs.Canonical.{canonical}
 use Rattle.placing.specs.Pooling.{Short}
-use Rattle.table_placing.specs.Held.{Sized, rootAt, reflectionHeld}
+use Rattle.table_placing.specs.TableReflection.{Sized, rootAt, reflectionInTables}
 use Rattle.table_placing.proofs.Decoded.{Decoded, decoded}
 
 module _ {chunk edits : Bytes} {h : Header} {bindings buffers variables types : List ℕ} (r : Readable chunk edits h bindings buffers variables types) where
@@ -26,5 +26,5 @@ module _ {chunk edits : Bytes} {h : Header} {bindings buffers variables types : 
     few-nodes = omega (arith, ap (rootAt types) (as-held .variables-counted), as-held .nodes-counted, r .type-count);
   }
 
-  pub same-canonical : canonical (contents chunk edits (reflectionHeld h bindings buffers variables types)) ≡ canonical (contents chunk edits (r .def))
+  pub same-canonical : canonical (contents chunk edits (reflectionInTables h bindings buffers variables types)) ≡ canonical (contents chunk edits (r .def))
   same-canonical = ap (λ d. canonical (contents chunk edits d)) (sym (as-held .is))

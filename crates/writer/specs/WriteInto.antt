@@ -5,8 +5,8 @@ use lib.ListN.{length}
 use Rattle.reflection.specs.declared.ResourceDef.{ResourceDef as Header}
 use Rattle.reflection.specs.Outcome.{Outcome}
 use Rattle.reflection.specs.Contents.{Bytes}
-use Rattle.readable.specs.Readable.{held}
+use Rattle.readable.specs.Readable.{tableContents}
 use Rattle.writing.specs.Outcome.{write}
 
 abbrev pub writeInto : List ℕ → Bytes → Bytes → Bytes → Header → List ℕ → List ℕ → List ℕ → List ℕ → Outcome Bytes
-writeInto scratch out chunk edits h bindings buffers variables types = write (length scratch) (length out) (held chunk edits h bindings buffers variables types)
+writeInto scratch out chunk edits h bindings buffers variables types = write (length scratch) (length out) (tableContents chunk edits h bindings buffers variables types)

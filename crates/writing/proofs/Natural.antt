@@ -8,10 +8,12 @@ use lib.Dec.{eqb}
 use lib.ListN.{length-map}
 use Rattle.reflection.specs.Reflection.{TypeNumbers, TypeDesc, typeDesc, Members, noMember, member, memberCount, CBufferVariable, CBufferDef, ResourceDef, isSm5, isWide, mapType, mapMembers, mapBinding, mapVariable, mapBuffer, mapDef}
 use Rattle.reflection.specs.Contents.{Bytes}
-use Rattle.writing.specs.Step.{Cell, byte, nameByte, defaultByte, Oracle, pools, Step, addType, cellsOf}
-use Rattle.writing.specs.Records.{typeWords, variableWords, variableSize, bufferWords, bufferSize, bindingWords, bindingSize, headerWords, rd11Words, headerSize, BodyOffsets}
+use Rattle.writing.specs.Step.{Cell, byte, nameByte, defaultByte, Oracle, pools, WriteStep, addType, cellsOf}
+use Rattle.writing.specs.Records.{typeWordsInChunk, variableWordsInChunk, variableSize, bufferWordsInChunk, bufferSize, bindingWordsInChunk, bindingSize, headerWordsInChunk, rd11Words, headerWordCount, BodyOffsets}
 use Rattle.writing.specs.Layout.{zip, nameCells, placeOuterName, placeInnerName, placeDefault, writeType, placeType, placeMembers, placeVariable, placeVariables, placeSection, placeSections, placeOuterNames, placeBufferParts, placeBuffers, placeBody, placeChunk, layout}
-use Rattle.writing.specs.Canonical.{bytesOracle, fill, canonical, through, mapCell, fillThrough}
+use Rattle.writing.specs.Canonical.{bytesOracle, fill, canonical}
+use Rattle.writing.proofs.Cells.{mapCell}
+use Rattle.writing.specs.Through.{through, fillThrough}
 use Rattle.writing.proofs.NaturalSteps.{mapPlaced, Natural, find-map, find-type-map, member-count-map, rows-map, map-cells-of, bind-natural, return-natural, append-natural, remember-natural, remember-if-natural, pad-natural, words-natural, ahead-natural, below-natural, once-natural, unless-empty-natural}
 
 module _ {N D M E : Type 0} (f : N → M) (g : D → E) (O : Oracle M E) where
@@ -40,14 +42,14 @@ module _ {N D M E : Type 0} (f : N → M) (g : D → E) (O : Oracle M E) where
       unless-empty-natural f g (O .default-length (g d)) (once-natural f g true _ _ (λ ps. find-map (O .same-default (g d)) g (ps .defaults)) (bind-natural f g (pad-natural f g) λ _.
       bind-natural f g (append-natural f g _ _ (map-cells-of f g (O .default-length (g d)) (defaultByte (g d)) (defaultByte d) (λ j. refl))) λ o. remember-natural f g _ _ o (λ ps. refl)))
 
-  write-type-natural : (sm5 : Bool) (k : TypeNumbers) (n : N) (count count′ : ℕ) {ms : Step M E (List ℕ)} {ms′ : Step N D (List ℕ)} → count ≡ count′ → Natural f g ms ms′
+  write-type-natural : (sm5 : Bool) (k : TypeNumbers) (n : N) (count count′ : ℕ) {ms : WriteStep M E (List ℕ)} {ms′ : WriteStep N D (List ℕ)} → count ≡ count′ → Natural f g ms ms′
       → Natural f g (writeType O sm5 k (f n) count ms) (writeType O′ sm5 k n count′ ms′)
   unfolding writeType through
   write-type-natural sm5 k n count count′ {ms} {ms′} e h =
       subst (λ (c : ℕ). Natural f g (writeType O sm5 k (f n) count ms) (writeType O′ sm5 k n c ms′)) e
       (bind-natural f g (unless-empty-natural f g (O .name-length (f n)) (inner-name-natural n)) λ name. bind-natural f g h λ records.
       bind-natural f g (unless-empty-natural f g count (bind-natural f g (pad-natural f g) λ _. words-natural f g records)) λ members. bind-natural f g (pad-natural f g) λ _.
-      words-natural f g (typeWords sm5 k count members name))
+      words-natural f g (typeWordsInChunk sm5 k count members name))
 
   mutual
     unfolding placeType mapType through
@@ -76,12 +78,12 @@ module _ {N D M E : Type 0} (f : N → M) (g : D → E) (O : Oracle M E) where
   variables-natural sm5 share (v ∷ vs) = bind-natural f g (variable-natural sm5 share v) λ o. bind-natural f g (variables-natural sm5 share vs) λ os. return-natural f g (o ∷ os)
 
   section-natural : (sm5 : Bool) (b : CBufferDef N D) → Natural f g (placeSection O sm5 (mapBuffer f g b)) (placeSection O′ sm5 b)
-  unfolding placeSection mapBuffer mapVariable variableWords
+  unfolding placeSection mapBuffer mapVariable variableWordsInChunk
   section-natural sm5 b =
       bind-natural f g (pad-natural f g) λ start.
       bind-natural f g
       (ahead-natural f g (ap (λ (n : ℕ). n * variableSize sm5) (length-map (b .variables) (mapVariable f g)))
-      (rows-map (variableWords sm5) (variableWords sm5) (mapVariable f g) (λ v o. refl) (b .variables)) (variables-natural sm5 (eqb (b .cb-type) 0) (b .variables))) λ os.
+      (rows-map (variableWordsInChunk sm5) (variableWordsInChunk sm5) (mapVariable f g) (λ v o. refl) (b .variables)) (variables-natural sm5 (eqb (b .cb-type) 0) (b .variables))) λ os.
       return-natural f g (record { start = start; offsets = os })
 
   sections-natural : (sm5 : Bool) (bs : List (CBufferDef N D)) → Natural f g (placeSections O sm5 (map (mapBuffer f g) bs)) (placeSections O′ sm5 bs)
@@ -109,32 +111,32 @@ module _ {N D M E : Type 0} (f : N → M) (g : D → E) (O : Oracle M E) where
       bind-natural f g (names-natural (mapBuffer f g) (λ b. b .name) (λ b. b .name) (λ b. refl) bs) λ names. bind-natural f g (sections-natural sm5 bs) λ sections. return-natural f g (zip names sections)
 
   buffers-natural : (sm5 : Bool) (bs : List (CBufferDef N D)) → Natural f g (placeBuffers O sm5 (map (mapBuffer f g) bs)) (placeBuffers O′ sm5 bs)
-  unfolding placeBuffers mapBuffer bufferWords
+  unfolding placeBuffers mapBuffer bufferWordsInChunk
   buffers-natural sm5 [] = return-natural f g (0, [])
   buffers-natural sm5 (b ∷ bs) =
       bind-natural f g (pad-natural f g) λ start.
       bind-natural f g
       (ahead-natural f g (ap (λ (n : ℕ). n * bufferSize) (length-map (b ∷ bs) (mapBuffer f g)))
-      (rows-map bufferWords bufferWords (mapBuffer f g) (λ c o. ap (λ (n : ℕ). o .0 ∷ n ∷ o .1 .start ∷ c .size ∷ c .flags ∷ c .cb-type ∷ []) (length-map (c .variables) (mapVariable f g))) (b ∷ bs))
+      (rows-map bufferWordsInChunk bufferWordsInChunk (mapBuffer f g) (λ c o. ap (λ (n : ℕ). o .0 ∷ n ∷ o .1 .start ∷ c .size ∷ c .flags ∷ c .cb-type ∷ []) (length-map (c .variables) (mapVariable f g))) (b ∷ bs))
       (buffer-parts-natural sm5 (b ∷ bs))) λ sections.
       return-natural f g (start, sections)
 
   body-natural : (r : ResourceDef N D) → Natural f g (placeBody O (mapDef f g r)) (placeBody O′ r)
-  unfolding placeBody mapDef mapBinding bindingWords
+  unfolding placeBody mapDef mapBinding bindingWordsInChunk
   body-natural r =
       bind-natural f g
       (ahead-natural f g (ap (λ (n : ℕ). n * bindingSize (isWide (r .rd11))) (length-map (r .bindings) (mapBinding f)))
-      (rows-map (bindingWords (isWide (r .rd11))) (bindingWords (isWide (r .rd11))) (mapBinding f) (λ b o. refl) (r .bindings))
+      (rows-map (bindingWordsInChunk (isWide (r .rd11))) (bindingWordsInChunk (isWide (r .rd11))) (mapBinding f) (λ b o. refl) (r .bindings))
       (names-natural (mapBinding f) (λ b. b .name) (λ b. b .name) (λ b. refl) (r .bindings))) λ _.
       bind-natural f g (buffers-natural (isSm5 (r .rd11)) (r .constant-buffers)) λ buffers. bind-natural f g (inner-name-natural (r .creator)) λ creator. bind-natural f g (pad-natural f g) λ _.
       return-natural f g (record { buffers = buffers .0; sections = buffers .1; creator = creator })
 
-  header-words-map : (r : ResourceDef N D) (o : BodyOffsets) → headerWords (mapDef f g r) o ≡ headerWords r o
-  unfolding headerWords mapDef
+  header-words-map : (r : ResourceDef N D) (o : BodyOffsets) → headerWordsInChunk (mapDef f g r) o ≡ headerWordsInChunk r o
+  unfolding headerWordsInChunk mapDef
   header-words-map r o =
       let p = length-map (r .constant-buffers) (mapBuffer f g) in
       let q = length-map (r .bindings) (mapBinding f) in
-      λ i. p i ∷ o .buffers ∷ q i ∷ 4 * headerSize (isSm5 (r .rd11)) ∷ r .target-version ∷ r .compile-flags ∷ o .creator ∷ rd11Words (r .rd11)
+      λ i. p i ∷ o .buffers ∷ q i ∷ 4 * headerWordCount (isSm5 (r .rd11)) ∷ r .target-version ∷ r .compile-flags ∷ o .creator ∷ rd11Words (r .rd11)
 
   chunk-natural : (r : ResourceDef N D) → Natural f g (placeChunk O (mapDef f g r)) (placeChunk O′ r)
   unfolding placeChunk mapDef

@@ -10,10 +10,10 @@ use lib.ListN.{length, length-map, replicate}
 use Rattle.words.specs.Words.{wordBytes}
 use Rattle.text.specs.Same.{sameBytes}
 use Rattle.reflection.specs.Reflection.{TypeDesc, typeDesc, Members, noMember, member, memberCount, mapType, mapMembers}
-use Rattle.writing.specs.Step.{Cell, byte, Pools, pools, Placed, Step, _>>=_, return, append, remember, pad, paddingAt, wordCells, ahead, hit, find, found, once, rememberIf, unlessEmpty, below, goDown, cellsOf}
+use Rattle.writing.specs.Step.{Cell, byte, Pools, pools, Placed, WriteStep, _>>=_, return, append, remember, pad, paddingAt, wordCells, ahead, hit, find, found, once, rememberIf, unlessEmpty, below, goDown, cellsOf}
 use Rattle.writing.specs.Records.{rows}
 use Rattle.writing.specs.Same.{numbersOf, sameType, sameMembers}
-use Rattle.writing.specs.Canonical.{mapCell}
+use Rattle.writing.proofs.Cells.{mapCell}
 
 -- An entry of a pool, the pools, and what a step hands back, of what the names and defaults stand for.
 abbrev pub mapKey : {K L : Type 0} → (K → L) → K × ℕ → L × ℕ
@@ -97,10 +97,10 @@ module _ {N D M E : Type 0} (f : N → M) (g : D → E) where
       λ i. e 0 i ∷ q i
 
   -- A step on what names and defaults stand for, and the step on them.
-  pub record Natural {A : Type 0} (m : Step M E A) (m′ : Step N D A) : Type 0 where
+  pub record Natural {A : Type 0} (m : WriteStep M E A) (m′ : WriteStep N D A) : Type 0 where
     pub runs : (at : ℕ) (ps : Pools N D) → m at (mapPools f g ps) ≡ mapPlaced f g (m′ at ps)
 
-  pub bind-natural : {A B : Type 0} {m : Step M E A} {m′ : Step N D A} {k : A → Step M E B} {k′ : A → Step N D B} → Natural m m′ → ((a : A) → Natural (k a) (k′ a)) → Natural (m >>= k) (m′ >>= k′)
+  pub bind-natural : {A B : Type 0} {m : WriteStep M E A} {m′ : WriteStep N D A} {k : A → WriteStep M E B} {k′ : A → WriteStep N D B} → Natural m m′ → ((a : A) → Natural (k a) (k′ a)) → Natural (m >>= k) (m′ >>= k′)
   unfolding _>>=_
   bind-natural {A} {B} {m} {m′} {k} {k′} h e = record { runs = go }
     where
@@ -143,7 +143,7 @@ module _ {N D M E : Type 0} (f : N → M) (g : D → E) where
   pub words-natural : (ws : List ℕ) → Natural (append (wordCells ws)) (append (wordCells ws))
   words-natural ws = append-natural (wordCells ws) (wordCells ws) (map-words ws)
 
-  pub ahead-natural : {A : Type 0} {n n′ : ℕ} {words words′ : A → List ℕ} {m : Step M E A} {m′ : Step N D A} → n ≡ n′ → ((a : A) → words a ≡ words′ a) → Natural m m′ → Natural (ahead n words m) (ahead n′ words′ m′)
+  pub ahead-natural : {A : Type 0} {n n′ : ℕ} {words words′ : A → List ℕ} {m : WriteStep M E A} {m′ : WriteStep N D A} → n ≡ n′ → ((a : A) → words a ≡ words′ a) → Natural m m′ → Natural (ahead n words m) (ahead n′ words′ m′)
   unfolding ahead
   ahead-natural {A} {n} {n′} {words} {words′} {m} {m′} e w h = record { runs = go }
     where
@@ -157,7 +157,7 @@ module _ {N D M E : Type 0} (f : N → M) (g : D → E) where
           (λ i. record { result = p i .result; cells = wordCells (words (p i .result)) ++ p i .cells; pools-after = p i .pools-after })
           ∙ (λ i. record { result = q .result; cells = cs i; pools-after = mapPools f g (q .pools-after) })
 
-  pub below-natural : {A : Type 0} {m : Step M E A} {m′ : Step N D A} → Natural m m′ → Natural (below m) (below m′)
+  pub below-natural : {A : Type 0} {m : WriteStep M E A} {m′ : WriteStep N D A} → Natural m m′ → Natural (below m) (below m′)
   unfolding below
   below-natural h = record {
     runs = λ at ps i.
@@ -165,16 +165,16 @@ module _ {N D M E : Type 0} (f : N → M) (g : D → E) where
         record { result = q .result; cells = q .cells; pools-after = pools (q .pools-after .outer-names) (q .pools-after .inner-names) (map (mapKey (mapType f)) (ps .types)) (q .pools-after .types) (q .pools-after .defaults) };
   }
 
-  found-natural : {m : Step M E ℕ} {m′ : Step N D ℕ} (l : Option ℕ) → Natural m m′ → Natural (found l m) (found l m′)
+  found-natural : {m : WriteStep M E ℕ} {m′ : WriteStep N D ℕ} (l : Option ℕ) → Natural m m′ → Natural (found l m) (found l m′)
   found-natural none h = record { runs = h .runs }
   found-natural (some o) h = record { runs = λ at ps. refl }
 
-  pub once-natural : (b : Bool) (look : Pools M E → Option ℕ) (look′ : Pools N D → Option ℕ) {m : Step M E ℕ} {m′ : Step N D ℕ} → ((ps : Pools N D) → look (mapPools f g ps) ≡ look′ ps) → Natural m m′ → Natural (once b look m) (once b look′ m′)
+  pub once-natural : (b : Bool) (look : Pools M E → Option ℕ) (look′ : Pools N D → Option ℕ) {m : WriteStep M E ℕ} {m′ : WriteStep N D ℕ} → ((ps : Pools N D) → look (mapPools f g ps) ≡ look′ ps) → Natural m m′ → Natural (once b look m) (once b look′ m′)
   unfolding once
   once-natural true look look′ {m} {m′} e h = record { runs = λ at ps. ap (λ (l : Option ℕ). found l m at (mapPools f g ps)) (e ps) ∙ found-natural (look′ ps) h .runs at ps }
   once-natural false look look′ e h = record { runs = h .runs }
 
-  pub unless-empty-natural : (n : ℕ) {m : Step M E ℕ} {m′ : Step N D ℕ} → Natural m m′ → Natural (unlessEmpty n m) (unlessEmpty n m′)
+  pub unless-empty-natural : (n : ℕ) {m : WriteStep M E ℕ} {m′ : WriteStep N D ℕ} → Natural m m′ → Natural (unlessEmpty n m) (unlessEmpty n m′)
   unfolding unlessEmpty
   unless-empty-natural zero h = return-natural 0
   unless-empty-natural (suc n) h = h

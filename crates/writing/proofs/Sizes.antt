@@ -10,7 +10,7 @@ use lib.ListN.{length, length-append, length-map}
 use Rattle.words.specs.Words.{wordBytes}
 use Rattle.reflection.specs.Reflection.{CBufferVariable, CBufferDef, ResourceBinding, ResourceDef, Rd11, noRd11, rd11, isSm5}
 use Rattle.writing.specs.Step.{Oracle, Pools, _>>=_, return, wordCells, ahead}
-use Rattle.writing.specs.Records.{VariableOffsets, variableWords, variableSize, Section, bufferWords, bufferSize, bindingWords, bindingSize, rd11Words, headerWords, headerSize, BodyOffsets, rows}
+use Rattle.writing.specs.Records.{VariableOffsets, variableWordsInChunk, variableSize, Section, bufferWordsInChunk, bufferSize, bindingWordsInChunk, bindingSize, rd11Words, headerWordsInChunk, headerWordCount, BodyOffsets, rows}
 use Rattle.writing.specs.Layout.{zip, placeVariables, placeSection, placeSections, placeOuterNames, placeBufferParts}
 
 pub word-cells-length : (N D : Type 0) (ws : List ℕ) → length (wordCells {N = N} {D = D} ws) ≡ 4 * length ws
@@ -25,25 +25,25 @@ rows-length row size e (x ∷ xs) [] h = absurd (omega arith)
 rows-length row size e (x ∷ xs) (o ∷ os) h =
     length-append (row x o) (rows row xs os) ∙ (λ i. e x o i + rows-length row size e xs os (omega arith) i) ∙ (let s : size + length xs * size ≡ suc (length xs) * size = omega arith in s)
 
-pub variable-words-length : {N D : Type 0} (sm5 : Bool) (v : CBufferVariable N D) (o : VariableOffsets) → length (variableWords sm5 v o) ≡ variableSize sm5
-unfolding variableWords
+pub variable-words-length : {N D : Type 0} (sm5 : Bool) (v : CBufferVariable N D) (o : VariableOffsets) → length (variableWordsInChunk sm5 v o) ≡ variableSize sm5
+unfolding variableWordsInChunk
 variable-words-length false v o = refl
 variable-words-length true v o = refl
 
-pub buffer-words-length : {N D : Type 0} (b : CBufferDef N D) (o : ℕ × Section) → length (bufferWords b o) ≡ bufferSize
-unfolding bufferWords
+pub buffer-words-length : {N D : Type 0} (b : CBufferDef N D) (o : ℕ × Section) → length (bufferWordsInChunk b o) ≡ bufferSize
+unfolding bufferWordsInChunk
 buffer-words-length b o = refl
 
-pub binding-words-length : {N : Type 0} (wide : Bool) (b : ResourceBinding N) (o : ℕ) → length (bindingWords wide b o) ≡ bindingSize wide
-unfolding bindingWords
+pub binding-words-length : {N : Type 0} (wide : Bool) (b : ResourceBinding N) (o : ℕ) → length (bindingWordsInChunk wide b o) ≡ bindingSize wide
+unfolding bindingWordsInChunk
 binding-words-length false b o = refl
 binding-words-length true b o = refl
 
-pub header-words-length : {N D : Type 0} (r : ResourceDef N D) (o : BodyOffsets) → length (headerWords r o) ≡ headerSize (isSm5 (r .rd11))
-unfolding headerWords rd11Words
+pub header-words-length : {N D : Type 0} (r : ResourceDef N D) (o : BodyOffsets) → length (headerWordsInChunk r o) ≡ headerWordCount (isSm5 (r .rd11))
+unfolding headerWordsInChunk rd11Words
 header-words-length r o = go (r .rd11)
   where
-    go : (w : Rd11) → suc (suc (suc (suc (suc (suc (suc (length (rd11Words w)))))))) ≡ headerSize (isSm5 w)
+    go : (w : Rd11) → suc (suc (suc (suc (suc (suc (suc (length (rd11Words w)))))))) ≡ headerWordCount (isSm5 w)
     go noRd11 = refl
     go (rd11 identifier stride slots) = refl
 

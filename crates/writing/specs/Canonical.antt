@@ -20,24 +20,3 @@ fill (defaultByte default j) = getD default j 0
 
 unfoldable pub canonical : ResourceDef Bytes Bytes → Bytes
 canonical r = map fill (layout bytesOracle r .cells)
-
--- Names and defaults that stand for others (places for bytes, numbers for bytes): the layout may know of them what it may know of those.
-unfoldable pub through : {N D M E : Type 0} → (N → M) → (D → E) → Oracle M E → Oracle N D
-through f g O = record {
-  name-length = λ n. O .name-length (f n);
-  same-name = λ n m. O .same-name (f n) (f m);
-  default-length = λ d. O .default-length (g d);
-  same-default = λ d e. O .same-default (g d) (g e);
-}
-
--- The byte of a cell, where names and defaults stand for bytes.
-unfoldable pub fillThrough : {N D : Type 0} → (N → Bytes) → (D → Bytes) → Cell N D → ℕ
-fillThrough f g (byte b) = b
-fillThrough f g (nameByte name j) = getD (f name) j 0
-fillThrough f g (defaultByte default j) = getD (g default) j 0
-
--- The same cell, of what its name or default stands for.
-unfoldable pub mapCell : {N D M E : Type 0} → (N → M) → (D → E) → Cell N D → Cell M E
-mapCell f g (byte b) = byte b
-mapCell f g (nameByte name j) = nameByte (f name) j
-mapCell f g (defaultByte default j) = defaultByte (g default) j

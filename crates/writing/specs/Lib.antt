@@ -3,6 +3,7 @@ pub mod Records
 pub mod Same
 pub mod Layout
 pub mod Canonical
+pub mod Through
 pub mod Outcome
 pub mod Payload
 pub mod EdgeChunks

@@ -3,7 +3,7 @@ use mathlib.Core.Bool.{Bool, true, false}
 use mathlib.Core.List.{List, [], _∷_, _++_}
 use Prim.Native.Nat.{ℕ, _+_, _*_, _/_}
 use lib.ListN.{length}
-use Rattle.reflection.specs.Strides.{headerSize as headerBytes, rd11HeaderSize, bindingStride, bufferStride, variableStride, typeStride, memberStride}
+use Rattle.reflection.specs.Strides.{headerSize, rd11HeaderSize, bindingStride, bufferStride, variableStride, typeStride, memberStride}
 use Rattle.reflection.specs.Reflection.{TypeNumbers, CBufferVariable, CBufferDef, ResourceBinding, ResourceDef, Rd11, noRd11, rd11, isSm5}
 
 -- Two numbers of 16 bits in a word, the first in the lower half.
@@ -16,9 +16,9 @@ wordsIf false ws = []
 wordsIf true ws = ws
 
 -- How many words a header has, a binding, a buffer and a variable.
-abbrev pub headerSize : Bool → ℕ
-headerSize false = headerBytes / 4
-headerSize true = rd11HeaderSize / 4
+abbrev pub headerWordCount : Bool → ℕ
+headerWordCount false = headerSize / 4
+headerWordCount true = rd11HeaderSize / 4
 
 abbrev pub bindingSize : Bool → ℕ
 bindingSize wide = bindingStride wide / 4
@@ -30,8 +30,8 @@ abbrev pub variableSize : Bool → ℕ
 variableSize sm5 = variableStride sm5 / 4
 
 -- A type descriptor: how many members, where their records lie, where its name lies.
-unfoldable pub typeWords : Bool → TypeNumbers → ℕ → ℕ → ℕ → List ℕ
-typeWords sm5 k members memberOffset nameOffset =
+unfoldable pub typeWordsInChunk : Bool → TypeNumbers → ℕ → ℕ → ℕ → List ℕ
+typeWordsInChunk sm5 k members memberOffset nameOffset =
     (halves (k .class) (k .var-type) ∷ halves (k .rows) (k .columns) ∷ halves (k .elements) members ∷ memberOffset ∷ [])
     ++ wordsIf sm5 (k .extra0 ∷ k .extra1 ∷ k .extra2 ∷ k .extra3 ∷ nameOffset ∷ [])
 
@@ -41,8 +41,8 @@ pub record VariableOffsets : Type 0 where
   pub type : ℕ
   pub default : ℕ
 
-unfoldable pub variableWords : {N D : Type 0} → Bool → CBufferVariable N D → VariableOffsets → List ℕ
-variableWords sm5 v o =
+unfoldable pub variableWordsInChunk : {N D : Type 0} → Bool → CBufferVariable N D → VariableOffsets → List ℕ
+variableWordsInChunk sm5 v o =
     (o .name ∷ v .offset ∷ v .size ∷ v .flags ∷ o .type ∷ o .default ∷ [])
     ++ wordsIf sm5 (v .texture-start ∷ v .texture-size ∷ v .sampler-start ∷ v .sampler-size ∷ [])
 
@@ -51,11 +51,11 @@ pub record Section : Type 0 where
   pub start : ℕ
   pub offsets : List VariableOffsets
 
-unfoldable pub bufferWords : {N D : Type 0} → CBufferDef N D → ℕ × Section → List ℕ
-bufferWords b o = o .0 ∷ length (b .variables) ∷ o .1 .start ∷ b .size ∷ b .flags ∷ b .cb-type ∷ []
+unfoldable pub bufferWordsInChunk : {N D : Type 0} → CBufferDef N D → ℕ × Section → List ℕ
+bufferWordsInChunk b o = o .0 ∷ length (b .variables) ∷ o .1 .start ∷ b .size ∷ b .flags ∷ b .cb-type ∷ []
 
-unfoldable pub bindingWords : {N : Type 0} → Bool → ResourceBinding N → ℕ → List ℕ
-bindingWords wide b o =
+unfoldable pub bindingWordsInChunk : {N : Type 0} → Bool → ResourceBinding N → ℕ → List ℕ
+bindingWordsInChunk wide b o =
     (o ∷ b .input-type ∷ b .return-type ∷ b .dimension ∷ b .num-samples ∷ b .bind-point ∷ b .bind-count ∷ b .flags ∷ [])
     ++ wordsIf wide (b .space ∷ b .id ∷ [])
 
@@ -72,9 +72,9 @@ pub record BodyOffsets : Type 0 where
   pub creator : ℕ
 
 -- The bindings lie right after the header, even where there are none.
-unfoldable pub headerWords : {N D : Type 0} → ResourceDef N D → BodyOffsets → List ℕ
-headerWords r o =
-    length (r .constant-buffers) ∷ o .buffers ∷ length (r .bindings) ∷ 4 * headerSize (isSm5 (r .rd11)) ∷ r .target-version ∷ r .compile-flags ∷ o .creator
+unfoldable pub headerWordsInChunk : {N D : Type 0} → ResourceDef N D → BodyOffsets → List ℕ
+headerWordsInChunk r o =
+    length (r .constant-buffers) ∷ o .buffers ∷ length (r .bindings) ∷ 4 * headerWordCount (isSm5 (r .rd11)) ∷ r .target-version ∷ r .compile-flags ∷ o .creator
     ∷ rd11Words (r .rd11)
 
 -- A row for each record.

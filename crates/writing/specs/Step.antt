@@ -40,32 +40,32 @@ pub record Placed (N D A : Type 0) : Type 0 where
   pub pools-after : Pools N D
 
 -- From the cursor and the pools.
-abbrev pub Step : Type 0 → Type 0 → Type 0 → Type 0
-Step N D A = ℕ → Pools N D → Placed N D A
+abbrev pub WriteStep : Type 0 → Type 0 → Type 0 → Type 0
+WriteStep N D A = ℕ → Pools N D → Placed N D A
 
 infixl 20 _>>=_
-unfoldable pub _>>=_ : {N D A B : Type 0} → Step N D A → (A → Step N D B) → Step N D B
+unfoldable pub _>>=_ : {N D A B : Type 0} → WriteStep N D A → (A → WriteStep N D B) → WriteStep N D B
 _>>=_ m f at ps =
     let r = m at ps in
     let q = f (r .result) (at + length (r .cells)) (r .pools-after) in
     record { result = q .result; cells = r .cells ++ q .cells; pools-after = q .pools-after }
 
-unfoldable pub return : {N D A : Type 0} → A → Step N D A
+unfoldable pub return : {N D A : Type 0} → A → WriteStep N D A
 return a at ps = record { result = a; cells = []; pools-after = ps }
 
 -- Appends cells; the result is where they begin.
-unfoldable pub append : {N D : Type 0} → List (Cell N D) → Step N D ℕ
+unfoldable pub append : {N D : Type 0} → List (Cell N D) → WriteStep N D ℕ
 append cs at ps = record { result = at; cells = cs; pools-after = ps }
 
 -- Remembers an offset in a pool; the result is the offset.
-unfoldable pub remember : {N D : Type 0} → (ℕ → Pools N D → Pools N D) → ℕ → Step N D ℕ
+unfoldable pub remember : {N D : Type 0} → (ℕ → Pools N D → Pools N D) → ℕ → WriteStep N D ℕ
 remember add offset at ps = record { result = offset; cells = []; pools-after = add offset ps }
 
 -- Padding: 0xAB up to a multiple of 4; the result is where it ends.
 unfoldable pub paddingAt : ℕ → ℕ
 paddingAt at = (4 - at % 4) % 4
 
-unfoldable pub pad : {N D : Type 0} → Step N D ℕ
+unfoldable pub pad : {N D : Type 0} → WriteStep N D ℕ
 pad at ps = record { result = at + paddingAt at; cells = replicate (paddingAt at) (byte 0xab); pools-after = ps }
 
 -- Words as cells.
@@ -74,7 +74,7 @@ wordCells [] = []
 wordCells (w ∷ ws) = map byte (wordBytes w) ++ wordCells ws
 
 -- n words that stand before what a step writes and are made from its result: records stand before what they point to.
-unfoldable pub ahead : {N D A : Type 0} → ℕ → (A → List ℕ) → Step N D A → Step N D A
+unfoldable pub ahead : {N D A : Type 0} → ℕ → (A → List ℕ) → WriteStep N D A → WriteStep N D A
 ahead n words m at ps =
     let q = m (at + 4 * n) ps in
     record { result = q .result; cells = wordCells (words (q .result)) ++ q .cells; pools-after = q .pools-after }
@@ -88,21 +88,21 @@ unfoldable pub find : {K : Type 0} → (K → Bool) → List (K × ℕ) → Opti
 find test [] = none
 find test (e ∷ es) = hit (test (e .0)) (e .1) (find test es)
 
-abbrev pub found : {N D : Type 0} → Option ℕ → Step N D ℕ → Step N D ℕ
+abbrev pub found : {N D : Type 0} → Option ℕ → WriteStep N D ℕ → WriteStep N D ℕ
 found none m at ps = m at ps
 found (some offset) m at ps = record { result = offset; cells = []; pools-after = ps }
 
 -- The offset that a pool has, or else a fresh one. Where nothing is shared, always a fresh one.
-unfoldable pub once : {N D : Type 0} → Bool → (Pools N D → Option ℕ) → Step N D ℕ → Step N D ℕ
+unfoldable pub once : {N D : Type 0} → Bool → (Pools N D → Option ℕ) → WriteStep N D ℕ → WriteStep N D ℕ
 once true look m at ps = found (look ps) m at ps
 once false look m at ps = m at ps
 
-unfoldable pub rememberIf : {N D : Type 0} → Bool → (ℕ → Pools N D → Pools N D) → ℕ → Step N D ℕ
+unfoldable pub rememberIf : {N D : Type 0} → Bool → (ℕ → Pools N D → Pools N D) → ℕ → WriteStep N D ℕ
 rememberIf true add offset = remember add offset
 rememberIf false add offset = return offset
 
 -- Nothing is written for what is empty, and its offset is 0.
-unfoldable pub unlessEmpty : {N D : Type 0} → ℕ → Step N D ℕ → Step N D ℕ
+unfoldable pub unlessEmpty : {N D : Type 0} → ℕ → WriteStep N D ℕ → WriteStep N D ℕ
 unlessEmpty zero m = return 0
 unlessEmpty (suc n) m = m
 
@@ -115,7 +115,7 @@ goDown ps = pools (ps .outer-names) (ps .inner-names) (ps .member-types) [] (ps 
 abbrev pub comeUp : {N D : Type 0} → List (TypeDesc N × ℕ) → Pools N D → Pools N D
 comeUp types ps = pools (ps .outer-names) (ps .inner-names) types (ps .types) (ps .defaults)
 
-unfoldable pub below : {N D A : Type 0} → Step N D A → Step N D A
+unfoldable pub below : {N D A : Type 0} → WriteStep N D A → WriteStep N D A
 below m at ps =
     let q = m at (goDown ps) in
     record { result = q .result; cells = q .cells; pools-after = comeUp (ps .types) (q .pools-after) }

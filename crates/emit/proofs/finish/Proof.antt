@@ -3,7 +3,8 @@ use Prim.Native.Nat.{min, _≤_, _<_}
 use native.Mathlib.Omega.{arith}
 use borrow.Author.Tests.{le-leb, lt-leb}
 use lib.ListN.{length}
-use Rattle.emit.specs.Written.{finished, kept, writtenOf, outputOf}
+use Rattle.emit.specs.Written.{writtenOf, outputOf}
+use Rattle.emit.specs.Cursor.{finished, kept}
 use borrow.Author.Needs.{needs}
 use Rattle.reflection.specs.Limits.{chunkLimit}
 use Rattle.emit.proofs.finish.Statement.{statement}

@@ -1,7 +1,7 @@
 -- `put_byte` meets its contract: a store, or nothing where the cursor lies past the end.
 use mathlib.Core.Path.{refl, sym}
 use mathlib.Core.List.{[], _∷_}
-use Rattle.words.specs.Splice.{put-one}
+use Rattle.words.proofs.Splice.{put-one}
 use Rattle.words.proofs.Splice.{splice-past-end}
 use borrow.Author.Needs.{needs}
 use Rattle.emit.proofs.put_byte.Statement.{statement}

@@ -40,7 +40,7 @@ same-length-2 : tie.Need-same-length-2
 same-length-2 c = search needs
 
 returns : tie.Need-returns
-returns c = 
+returns c =
     let a = c .before .before .before .before .before .before .before .before .before .before .before .before .before .before .before .before .before .before .before .before .before .before .before .before .before .before .args in
     let nb : length (a .found-bindings .now) ≡ 12288 = search needs in
     let nf : length (a .found-buffers .now) ≡ 448 = search needs in
@@ -57,7 +57,7 @@ same-length-4 : tie.Need-same-length-4
 same-length-4 c = search needs
 
 returns-2 : tie.Need-returns-2
-returns-2 c = 
+returns-2 c =
     let a = c .before .before .before .before .before .before .before .before .before .before .before .before .before .before .before .before .before .before .before .before .before .before .before .before .before .args in
     let nb : length (a .found-bindings .now) ≡ 12288 = search needs in
     let nf : length (a .found-buffers .now) ≡ 448 = search needs in

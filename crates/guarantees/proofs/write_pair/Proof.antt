@@ -1,6 +1,6 @@
 -- `write_pair` meets its contract: by noninterference (proofs/Noninterference.antt), since what is lent as words is words.
 use native.Mathlib.Omega.{arith}
-use Rattle.round_trip.specs.RoundTrip.{Words}
+use Rattle.round_trip.specs.RoundTrip.{EachIsWord}
 use Rattle.guarantees.specs.Calls.{lent}
 use Rattle.guarantees.proofs.Noninterference.{LentWords, noninterference}
 use borrow.Author.Needs.{needs}
@@ -26,8 +26,8 @@ same-length-4 : tie.Need-same-length-4
 same-length-4 c = search needs
 
 returns : tie.Need-returns
-unfolding Words
-returns c = 
+unfolding EachIsWord
+returns c =
     let a = c .before .before .before .before .before .before .before .before .before .before .before .before .before .before .before .before .before .before .before .before .before .before .before .before .before .before .before .before .before .before .before .before .before .before .before .before .before .before .args in
     let fits = c .before .before .before .before .before .before .before .before .before .before .before .before .before .before .before .before .before .before .before .before .before .before .before .before .before .before .before .before .before .before .before .before .before .before .before .before .before .before .good .1 .1 .0 in
     let words-a : LentWords (lent (a .chunk-a .now) (a .edits-a .now) (a .def-a) (a .bindings-a .now) (a .buffers-a .now) (a .variables-a .now) (a .types-a .now) (a .scratch-a .now) (a .out-a .now)) = record {

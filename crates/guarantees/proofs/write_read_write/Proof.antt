@@ -3,7 +3,7 @@ use mathlib.Core.Path.{ap, _∙_}
 use native.Mathlib.Omega.{arith}
 use lib.ListN.{length}
 use Rattle.reflection.specs.Outcome.{refused}
-use Rattle.round_trip.specs.RoundTrip.{Words}
+use Rattle.round_trip.specs.RoundTrip.{EachIsWord}
 use Rattle.guarantees.specs.declared.WrittenAndRead.the-variants.{Wrote}
 use Rattle.guarantees.specs.Calls.{lent}
 use Rattle.guarantees.proofs.Noninterference.{LentWords}
@@ -52,8 +52,8 @@ same-length-3 : tie.Need-same-length-3
 same-length-3 c = search needs
 
 returns : tie.Need-returns
-unfolding Words
-returns c = 
+unfolding EachIsWord
+returns c =
     let a = c .before .before .before .before .before .before .before .before .before .before .before .before .before .before .before .before .before .before .before .before .before .before .before .before .before .before .before .args in
     let fits = c .before .before .before .before .before .before .before .before .before .before .before .before .before .before .before .before .before .before .before .before .before .before .before .before .before .before .before .good .1 .1 .0 in
     let lent-words : LentWords (lent (a .chunk .now) (a .edits .now) (a .def) (a .bindings .now) (a .buffers .now) (a .variables .now) (a .types .now) (a .scratch .now) (a .out .now)) = record {
@@ -77,8 +77,8 @@ same-length-6 : tie.Need-same-length-6
 same-length-6 c = search needs
 
 returns-2 : tie.Need-returns-2
-unfolding Words
-returns-2 c = 
+unfolding EachIsWord
+returns-2 c =
     let a = c .before .before .before .before .before .before .before .before .before .before .before .before .before .before .before .before .before .before .before .before .before .before .before .before .before .before .before .before .before .before .args in
     let fits = c .before .before .before .before .before .before .before .before .before .before .before .before .before .before .before .before .before .before .before .before .before .before .before .before .before .before .before .before .before .before .good .1 .1 .0 in
     let lent-words : LentWords (lent (a .chunk .now) (a .edits .now) (a .def) (a .bindings .now) (a .buffers .now) (a .variables .now) (a .types .now) (a .scratch .now) (a .out .now)) = record {
@@ -103,8 +103,8 @@ same-length-9 : tie.Need-same-length-9
 same-length-9 c = search needs
 
 returns-3 : tie.Need-returns-3
-unfolding Words
-returns-3 c = 
+unfolding EachIsWord
+returns-3 c =
     let a = c .before .before .before .before .before .before .before .before .before .before .before .before .before .before .before .before .before .before .before .before .before .before .before .before .before .before .before .before .before .before .before .before .before .before .before .before .before .before .before .before .before .before .before .before .args in
     let fits = c .before .before .before .before .before .before .before .before .before .before .before .before .before .before .before .before .before .before .before .before .before .before .before .before .before .before .before .before .before .before .before .before .before .before .before .before .before .before .before .before .before .before .before .before .good .1 .1 .0 in
     let lent-words : LentWords (lent (a .chunk .now) (a .edits .now) (a .def) (a .bindings .now) (a .buffers .now) (a .variables .now) (a .types .now) (a .scratch .now) (a .out .now)) = record {

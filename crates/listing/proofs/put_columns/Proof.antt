@@ -1,6 +1,6 @@
 -- `put_columns` meets its contract: column after column. None is long, so the cursor stays near.
 use native.Mathlib.Omega.{arith}
-use Rattle.words.specs.Splice.{put-then}
+use Rattle.words.proofs.Splice.{put-then}
 use Rattle.listing.specs.Listing.{columns}
 use Rattle.listing.proofs.Tables.{input-type-column, dimension-column}
 use borrow.Author.Needs.{needs}

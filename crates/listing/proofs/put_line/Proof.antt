@@ -1,5 +1,5 @@
 -- `put_line` meets its contract: the name, then the columns after it.
-use Rattle.words.specs.Splice.{put-then}
+use Rattle.words.proofs.Splice.{put-then}
 use borrow.Author.Needs.{needs}
 use Rattle.listing.proofs.put_line.Statement.{statement}
 use Rattle.listing.proofs.put_line.Tie as tie

@@ -3,7 +3,7 @@ use mathlib.Core.Path.{refl, sym, ap, _∙_}
 use borrow.Author.Tests.{not-true, not-false}
 use lib.ListN.{length, length-replicate}
 use Rattle.reflection.specs.Outcome.{Outcome}
-use Rattle.readable.specs.Readable.{held, readable}
+use Rattle.readable.specs.Readable.{tableContents, readable}
 use Rattle.writing.specs.Outcome.{write}
 use Rattle.writing.specs.Payload.{Part}
 use Rattle.payload.specs.Answer.{roomEnough, payloadAnswer, payloadOutput, writtenAnswer}
@@ -27,7 +27,7 @@ returns c =
     let if1-at = c .before .before .before .before .if1 in
     let enough-at = c .before .before .before .before .before .enough in
     let args-at = c .before .before .before .before .before .before .before .before .before .before .before .before .before .before .before .before .before .before .args in
-    let is = no-room (roomEnough (length (args-at .found-bindings .now)) (length (args-at .found-buffers .now)) (length (args-at .found-variables .now)) (length (args-at .found-types .now)) (length (args-at .scratch .now))) (length (args-at .out .now)) (args-at .chunk .now) (held (args-at .chunk .now) (args-at .edits .now) (args-at .def) (args-at .bindings .now) (args-at .buffers .now) (args-at .variables .now) (args-at .types .now)) (sym (enough-at .ensures) ∙ not-true _ (if1-at .taken)) in
+    let is = no-room (roomEnough (length (args-at .found-bindings .now)) (length (args-at .found-buffers .now)) (length (args-at .found-variables .now)) (length (args-at .found-types .now)) (length (args-at .scratch .now))) (length (args-at .out .now)) (args-at .chunk .now) (tableContents (args-at .chunk .now) (args-at .edits .now) (args-at .def) (args-at .bindings .now) (args-at .buffers .now) (args-at .variables .now) (args-at .types .now)) (sym (enough-at .ensures) ∙ not-true _ (if1-at .taken)) in
     (refuse-at .ensures .0 ∙ ap payloadAnswer (sym is), (refuse-at .ensures .1 ∙ ap (λ (o : Outcome Part). payloadOutput o (args-at .out .now)) (sym is), (refl, (refl, (refl, (refl, refl))))))
 
 readable-requires : tie.Need-readable-requires
@@ -48,7 +48,7 @@ returns-2 c =
     let if1-at = c .before .before .before .before .before .before .if1 in
     let enough-at = c .before .before .before .before .before .before .before .enough in
     let args-at = c .before .before .before .before .before .before .before .before .before .before .before .before .before .before .before .before .before .before .before .before .args in
-    let is = not-readable (roomEnough (length (args-at .found-bindings .now)) (length (args-at .found-buffers .now)) (length (args-at .found-variables .now)) (length (args-at .found-types .now)) (length (args-at .scratch .now))) (length (args-at .out .now)) (args-at .chunk .now) (held (args-at .chunk .now) (args-at .edits .now) (args-at .def) (args-at .bindings .now) (args-at .buffers .now) (args-at .variables .now) (args-at .types .now)) (sym (enough-at .ensures) ∙ not-false _ (if1-at .left)) (sym (readable-at .ensures) ∙ not-true _ (if2-at .taken)) in
+    let is = not-readable (roomEnough (length (args-at .found-bindings .now)) (length (args-at .found-buffers .now)) (length (args-at .found-variables .now)) (length (args-at .found-types .now)) (length (args-at .scratch .now))) (length (args-at .out .now)) (args-at .chunk .now) (tableContents (args-at .chunk .now) (args-at .edits .now) (args-at .def) (args-at .bindings .now) (args-at .buffers .now) (args-at .variables .now) (args-at .types .now)) (sym (enough-at .ensures) ∙ not-false _ (if1-at .left)) (sym (readable-at .ensures) ∙ not-true _ (if2-at .taken)) in
     (refuse2-at .ensures .0 ∙ ap payloadAnswer (sym is), (refuse2-at .ensures .1 ∙ ap (λ (o : Outcome Part). payloadOutput o (args-at .out .now)) (sym is), (refl, (refl, (refl, (refl, refl))))))
 
 unedited-requires : tie.Need-unedited-requires
@@ -83,7 +83,7 @@ returns-3 c =
     let if1-at = c .before .before .before .before .before .before .before .before .before .before .before .before .before .before .before .before .if1 in
     let enough-at = c .before .before .before .before .before .before .before .before .before .before .before .before .before .before .before .before .before .enough in
     let args-at = c .before .before .before .before .before .before .before .before .before .before .before .before .before .before .before .before .before .before .before .before .before .before .before .before .before .before .before .before .before .before .args in
-    let is = the-chunk (roomEnough (length (args-at .found-bindings .now)) (length (args-at .found-buffers .now)) (length (args-at .found-variables .now)) (length (args-at .found-types .now)) (length (args-at .scratch .now))) (length (args-at .out .now)) (args-at .chunk .now) (held (args-at .chunk .now) (args-at .edits .now) (args-at .def) (args-at .bindings .now) (args-at .buffers .now) (args-at .variables .now) (args-at .types .now)) (sym (enough-at .ensures) ∙ not-false _ (if1-at .left)) (sym (readable-at .ensures) ∙ not-false _ (if2-at .left)) (sym (unedited-at .ensures .0) ∙ if3-at .taken) in
+    let is = the-chunk (roomEnough (length (args-at .found-bindings .now)) (length (args-at .found-buffers .now)) (length (args-at .found-variables .now)) (length (args-at .found-types .now)) (length (args-at .scratch .now))) (length (args-at .out .now)) (args-at .chunk .now) (tableContents (args-at .chunk .now) (args-at .edits .now) (args-at .def) (args-at .bindings .now) (args-at .buffers .now) (args-at .variables .now) (args-at .types .now)) (sym (enough-at .ensures) ∙ not-false _ (if1-at .left)) (sym (readable-at .ensures) ∙ not-false _ (if2-at .left)) (sym (unedited-at .ensures .0) ∙ if3-at .taken) in
     (sym (ap payloadAnswer is), (sym (ap (λ (o : Outcome Part). payloadOutput o (args-at .out .now)) is), (unedited-at .ensures .1 .0, (unedited-at .ensures .1 .1 .0, (unedited-at .ensures .1 .1 .1 .0, (unedited-at .ensures .1 .1 .1 .1, refl))))))
 
 write-rdef-canonical-requires : tie.Need-write-rdef-canonical-requires
@@ -123,8 +123,8 @@ returns-4 c =
     let enough-at = c .before .before .before .before .before .before .before .before .before .before .before .before .before .before .before .before .before .before .before .before .before .before .before .before .before .enough in
     let args-at = c .before .before .before .before .before .before .before .before .before .before .before .before .before .before .before .before .before .before .before .before .before .before .before .before .before .before .before .before .before .before .before .before .before .before .before .before .before .before .args in
     let long = enough-long (length (args-at .found-bindings .now)) (length (args-at .found-buffers .now)) (length (args-at .found-variables .now)) (length (args-at .found-types .now)) (length (args-at .scratch .now)) (sym (enough-at .ensures) ∙ not-false _ (if1-at .left)) in
-    let outcome = write (length (args-at .scratch .now)) (length (args-at .out .now)) (held (args-at .chunk .now) (args-at .edits .now) (args-at .def) (args-at .bindings .now) (args-at .buffers .now) (args-at .variables .now) (args-at .types .now)) in
-    let is = the-output (roomEnough (length (args-at .found-bindings .now)) (length (args-at .found-buffers .now)) (length (args-at .found-variables .now)) (length (args-at .found-types .now)) (length (args-at .scratch .now))) (length (args-at .out .now)) (args-at .chunk .now) (length (args-at .scratch .now)) (held (args-at .chunk .now) (args-at .edits .now) (args-at .def) (args-at .bindings .now) (args-at .buffers .now) (args-at .variables .now) (args-at .types .now)) (long .scratch-long) (sym (enough-at .ensures) ∙ not-false _ (if1-at .left)) (sym (readable-at .ensures) ∙ not-false _ (if2-at .left)) (sym (unedited-at .ensures .0) ∙ if3-at .left) in
+    let outcome = write (length (args-at .scratch .now)) (length (args-at .out .now)) (tableContents (args-at .chunk .now) (args-at .edits .now) (args-at .def) (args-at .bindings .now) (args-at .buffers .now) (args-at .variables .now) (args-at .types .now)) in
+    let is = the-output (roomEnough (length (args-at .found-bindings .now)) (length (args-at .found-buffers .now)) (length (args-at .found-variables .now)) (length (args-at .found-types .now)) (length (args-at .scratch .now))) (length (args-at .out .now)) (args-at .chunk .now) (length (args-at .scratch .now)) (tableContents (args-at .chunk .now) (args-at .edits .now) (args-at .def) (args-at .bindings .now) (args-at .buffers .now) (args-at .variables .now) (args-at .types .now)) (long .scratch-long) (sym (enough-at .ensures) ∙ not-false _ (if1-at .left)) (sym (readable-at .ensures) ∙ not-false _ (if2-at .left)) (sym (unedited-at .ensures .0) ∙ if3-at .left) in
     (written-payload-at .ensures ∙ ap writtenAnswer (write-rdef-canonical-at .ensures .0) ∙ sym (written-answer outcome) ∙ ap payloadAnswer (sym is), (write-rdef-canonical-at .ensures .1 .0 ∙ sym (written-output outcome (args-at .out .now)) ∙ ap (λ (o : Outcome Part). payloadOutput o (args-at .out .now)) (sym is), (unedited-at .ensures .1 .0, (unedited-at .ensures .1 .1 .0, (unedited-at .ensures .1 .1 .1 .0, (unedited-at .ensures .1 .1 .1 .1, ap length (write-rdef-canonical-at .ensures .1 .1) ∙ length-replicate (length (args-at .scratch .now)) 0))))))
 
 pub find-payload-spec : {M : Type 1} → statement M

@@ -1,6 +1,6 @@
 -- `put_name` meets its contract: the bytes, and after them the NUL.
 use mathlib.Core.Path.{refl}
-use Rattle.words.specs.Splice.{put-then}
+use Rattle.words.proofs.Splice.{put-then}
 use borrow.Author.Needs.{needs}
 use Rattle.placing.proofs.put_name.Statement.{statement}
 use Rattle.placing.proofs.put_name.Tie as tie

@@ -3,7 +3,8 @@ use native.Mathlib.Omega.{arith}
 use Prim.Native.Nat.{_-_, _≤_}
 use lib.ListN.{length, take}
 use lib.Seq.{take-all, length-take-le}
-use Rattle.words.specs.Splice.{Put, put-none, put-then, put-length}
+use Rattle.words.specs.Splice.{Put}
+use Rattle.words.proofs.Splice.{put-none, put-then, put-length}
 use Rattle.placing.specs.Bytes.{joinedBytes}
 use Rattle.placing.proofs.CellBytes.{length-joined, joined-take-more}
 use Rattle.placing.proofs.put_words.Statement.{statement}

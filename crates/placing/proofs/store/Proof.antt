@@ -1,7 +1,7 @@
 -- `store` meets its contract: a store, or nothing where the place lies past the end.
 use mathlib.Core.Path.{sym}
 use mathlib.Core.List.{[], _∷_}
-use Rattle.words.specs.Splice.{splice-one}
+use Rattle.words.proofs.Splice.{splice-one}
 use Rattle.words.proofs.Splice.{splice-past-end}
 use borrow.Author.Needs.{needs}
 use Rattle.placing.proofs.store.Statement.{statement}

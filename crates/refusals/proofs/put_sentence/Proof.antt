@@ -1,5 +1,5 @@
 -- `put_sentence` meets its contract: an arm stands at a place of the table, `_` beyond it.
-use Rattle.words.specs.Splice.{put-none}
+use Rattle.words.proofs.Splice.{put-none}
 use Rattle.refusals.specs.Sentences.{sentence}
 use Rattle.refusals.proofs.Beyond.{no-sentence}
 use borrow.Author.Needs.{needs}

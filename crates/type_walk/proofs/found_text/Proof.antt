@@ -3,7 +3,7 @@ use borrow.Author.Needs.{needs}
 use mathlib.Core.Path.{sym, ap, subst, _∙_}
 use Prim.Native.Nat.{_+_, _≤_}
 use native.Mathlib.Omega.{arith}
-use Rattle.text.specs.Strings.{Within}
+use Rattle.text.specs.Strings.{FoundWithin}
 use Rattle.reflection.specs.Limits.{chunkLimit}
 use Rattle.type_walk.specs.Walk.{foundText}
 use Rattle.type_walk.proofs.found_text.Statement.{statement}
@@ -15,13 +15,13 @@ enum-known-found c = search needs
 cast-in-chunk : tie.Need-cast-in-chunk
 cast-in-chunk c =
     let found = c .before .found .given in
-    let within : found .0 .0 + found .0 .1 .0 ≤ chunkLimit = subst (Within chunkLimit) (found .1) (c .before .before .before .pre) in
+    let within : found .0 .0 + found .0 .1 .0 ≤ chunkLimit = subst (FoundWithin chunkLimit) (found .1) (c .before .before .before .pre) in
     omega arith
 
 cast-in-chunk-2 : tie.Need-cast-in-chunk-2
 cast-in-chunk-2 c =
     let found = c .before .found .given in
-    let within : found .0 .0 + found .0 .1 .0 ≤ chunkLimit = subst (Within chunkLimit) (found .1) (c .before .before .before .pre) in
+    let within : found .0 .0 + found .0 .1 .0 ≤ chunkLimit = subst (FoundWithin chunkLimit) (found .1) (c .before .before .before .pre) in
     omega arith
 
 in-chunk-requires : tie.Need-in-chunk-requires

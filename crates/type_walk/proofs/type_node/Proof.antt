@@ -2,12 +2,12 @@
 use borrow.Author.Needs.{needs}
 use Rattle.reading.specs.Read.{numbersFrom}
 use Rattle.reflection.specs.Tables.{typeRecord}
-use Rattle.type_walk.specs.Walk.{nodeFrom}
+use Rattle.type_walk.specs.Walk.{nodeFromChunk}
 use Rattle.type_walk.proofs.type_node.Statement.{statement}
 use Rattle.type_walk.proofs.type_node.Tie as tie
 
 returns : tie.Need-returns
-unfolding nodeFrom numbersFrom typeRecord
+unfolding nodeFromChunk numbersFrom typeRecord
 returns c = cc
 
 pub type-node-spec : {M : Type 1} → statement M

@@ -4,7 +4,8 @@ use mathlib.Core.Path.{_≡_, refl, sym, ap, _∙_}
 use Prim.Native.Nat.{ℕ, _-_, _≤_}
 use native.Mathlib.Omega.{arith}
 use lib.ListN.{length, replicate, length-set, length-replicate}
-use Rattle.words.specs.Splice.{splice, splice-nil}
+use Rattle.words.specs.Splice.{splice}
+use Rattle.words.proofs.Splice.{splice-nil}
 use Rattle.words.proofs.Splice.{splice-to-end, splice-replicate-more}
 use Rattle.words.proofs.clear_from.Statement.{statement}
 use Rattle.words.proofs.clear_from.Tie as tie

@@ -4,7 +4,8 @@ use mathlib.Core.Path.{_≡_, refl, sym, _∙_}
 use Prim.Native.Nat.{_-_, _≤_}
 use native.Mathlib.Omega.{arith}
 use lib.ListN.{length, take, length-set}
-use Rattle.words.specs.Splice.{splice, splice-nil}
+use Rattle.words.specs.Splice.{splice}
+use Rattle.words.proofs.Splice.{splice-nil}
 use Rattle.words.proofs.Splice.{splice-past-end, splice-enough, splice-take-more}
 use Rattle.words.proofs.put_words.Statement.{statement}
 use Rattle.words.proofs.put_words.Tie as tie

@@ -5,7 +5,7 @@ use Prim.Native.Nat.{ℕ}
 use native.Mathlib.Omega.{arith}
 use lib.ListN.{length}
 use Rattle.reflection.specs.Outcome.{Outcome, ok}
-use Rattle.readable.specs.Readable.{held}
+use Rattle.readable.specs.Readable.{tableContents}
 use Rattle.readable.proofs.ReadableTables.{readable-holds}
 use Rattle.emit.specs.Written.{fitting, writtenOf, outputOf}
 use Rattle.writer.proofs.Answers.{short-scratch, unreadable, writable, chunk-answer, chunk-output}
@@ -24,7 +24,7 @@ returns : tie.Need-returns
 returns c =
     let a = c .before .before .before .before .before .before .before .before .before .before .before .before .before .args in
     let refused = c .before .before .refuse .ensures in
-    let short = short-scratch (length (a .scratch .now)) (length (a .out .now)) (held (a .chunk .now) (a .edits .now) (a .def) (a .bindings .now) (a .buffers .now) (a .variables .now) (a .types .now)) (c .before .before .before .before .if1 .taken) in
+    let short = short-scratch (length (a .scratch .now)) (length (a .out .now)) (tableContents (a .chunk .now) (a .edits .now) (a .def) (a .bindings .now) (a .buffers .now) (a .variables .now) (a .types .now)) (c .before .before .before .before .if1 .taken) in
     (refused .0 ∙ ap writtenOf (sym short), (refused .1 ∙ ap (λ (o : Outcome (List ℕ)). outputOf o (a .out .now)) (sym short), refl))
 
 readable-requires : tie.Need-readable-requires

@@ -8,7 +8,7 @@ use Rattle.reflection.specs.Decode.{recordsFrom}
 use Rattle.reflection.specs.Limits.{variableRoom}
 use Rattle.writing.specs.Same.{sameList, sameBuffer}
 use Rattle.type_equality.specs.Same.{sameName}
-use Rattle.table_placing.specs.Held.{rootAt, countAt, firstVariable, bufferHeld}
+use Rattle.table_placing.specs.TableReflection.{rootAt, countAt, firstVariable, bufferInTable}
 use Rattle.comparing.proofs.Walks.{rest-equal, equal-start, equal-onward, equal-stops, equal-end, root-below, first-next, first-below}
 use Rattle.comparing.proofs.Buffers.{other-fields, other-count, as-variables}
 use borrow.Author.Needs.{needs}
@@ -22,9 +22,9 @@ Inv-loop chunk edits buffers variables types other-buffers other-variables other
     × ((first ≡ firstVariable other-buffers i)
     × ((root ≡ rootAt types first)
     × ((other-root ≡ rootAt other-types first)
-    × (sameList (sameBuffer (sameName chunk edits) (sameName chunk edits)) (recordsFrom (bufferHeld buffers variables types) 0 count)
-    (recordsFrom (bufferHeld other-buffers other-variables other-types) 0 count)
-    ≡ rest-equal (sameBuffer (sameName chunk edits) (sameName chunk edits)) (bufferHeld buffers variables types) (bufferHeld other-buffers other-variables other-types) 0 count i)))))
+    × (sameList (sameBuffer (sameName chunk edits) (sameName chunk edits)) (recordsFrom (bufferInTable buffers variables types) 0 count)
+    (recordsFrom (bufferInTable other-buffers other-variables other-types) 0 count)
+    ≡ rest-equal (sameBuffer (sameName chunk edits) (sameName chunk edits)) (bufferInTable buffers variables types) (bufferInTable other-buffers other-variables other-types) 0 count i)))))
 
 abbrev μ-loop : tie.MeasureT-loop
 μ-loop chunk edits buffers variables types other-buffers other-variables other-types count i₀ first₀ root₀ other-root₀ i first root other-root = count - i
@@ -33,7 +33,7 @@ loop-holds : tie.Need-loop-holds Inv-loop μ-loop
 unfolding firstVariable rootAt
 loop-holds c =
     let args-at = c .before .before .before .before .before .before .before .before .args in
-    (omega arith, (refl, (refl, (refl, (refl, equal-start (sameBuffer (sameName (args-at .chunk .now) (args-at .edits .now)) (sameName (args-at .chunk .now) (args-at .edits .now))) (bufferHeld (args-at .buffers .now) (args-at .variables .now) (args-at .types .now)) (bufferHeld (args-at .other-buffers .now) (args-at .other-variables .now) (args-at .other-types .now)) 0 (args-at .count))))))
+    (omega arith, (refl, (refl, (refl, (refl, equal-start (sameBuffer (sameName (args-at .chunk .now) (args-at .edits .now)) (sameName (args-at .chunk .now) (args-at .edits .now))) (bufferInTable (args-at .buffers .now) (args-at .variables .now) (args-at .types .now)) (bufferInTable (args-at .other-buffers .now) (args-at .other-variables .now) (args-at .other-types .now)) 0 (args-at .count))))))
 
 buffer-at-requires : tie.Need-buffer-at-requires Inv-loop μ-loop
 buffer-at-requires c κs = search needs
@@ -53,7 +53,7 @@ returns c =
     let loop-test-at = c .before .before .before .before .loop-test in
     let loop-at = c .before .before .before .before .before .loop in
     let args-at = c .before .before .before .before .before .before .before .before .before .before .before .before .before .before .args in
-    sym (loop-at .inv .1 .1 .1 .1 .1 ∙ equal-stops (sameBuffer (sameName (args-at .chunk .now) (args-at .edits .now)) (sameName (args-at .chunk .now) (args-at .edits .now))) (bufferHeld (args-at .buffers .now) (args-at .variables .now) (args-at .types .now)) (bufferHeld (args-at .other-buffers .now) (args-at .other-variables .now) (args-at .other-types .now)) 0 (args-at .count) (loop-at .i) (loop-at .i) (omega arith) (omega (arith, loop-test-at .taken)) (other-fields (sameName (args-at .chunk .now) (args-at .edits .now)) (args-at .buffers .now) (args-at .variables .now) (args-at .types .now) (args-at .other-buffers .now) (args-at .other-variables .now) (args-at .other-types .now) (loop-at .i) (loop-at .first) (buffer-at-at .ensures) (buffer-at2-at .ensures) (loop-at .inv .1 .0) (loop-at .inv .1 .1 .0) (sym (same-fields-at .ensures) ∙ not-true _ (if1-at .taken))))
+    sym (loop-at .inv .1 .1 .1 .1 .1 ∙ equal-stops (sameBuffer (sameName (args-at .chunk .now) (args-at .edits .now)) (sameName (args-at .chunk .now) (args-at .edits .now))) (bufferInTable (args-at .buffers .now) (args-at .variables .now) (args-at .types .now)) (bufferInTable (args-at .other-buffers .now) (args-at .other-variables .now) (args-at .other-types .now)) 0 (args-at .count) (loop-at .i) (loop-at .i) (omega arith) (omega (arith, loop-test-at .taken)) (other-fields (sameName (args-at .chunk .now) (args-at .edits .now)) (args-at .buffers .now) (args-at .variables .now) (args-at .types .now) (args-at .other-buffers .now) (args-at .other-variables .now) (args-at .other-types .now) (loop-at .i) (loop-at .first) (buffer-at-at .ensures) (buffer-at2-at .ensures) (loop-at .inv .1 .0) (loop-at .inv .1 .1 .0) (sym (same-fields-at .ensures) ∙ not-true _ (if1-at .taken))))
 
 returns-2 : tie.Need-returns-2 Inv-loop μ-loop
 returns-2 c =
@@ -65,7 +65,7 @@ returns-2 c =
     let loop-test-at = c .before .before .before .before .before .before .before .loop-test in
     let loop-at = c .before .before .before .before .before .before .before .before .loop in
     let args-at = c .before .before .before .before .before .before .before .before .before .before .before .before .before .before .before .before .before .args in
-    sym (loop-at .inv .1 .1 .1 .1 .1 ∙ equal-stops (sameBuffer (sameName (args-at .chunk .now) (args-at .edits .now)) (sameName (args-at .chunk .now) (args-at .edits .now))) (bufferHeld (args-at .buffers .now) (args-at .variables .now) (args-at .types .now)) (bufferHeld (args-at .other-buffers .now) (args-at .other-variables .now) (args-at .other-types .now)) 0 (args-at .count) (loop-at .i) (loop-at .i) (omega arith) (omega (arith, loop-test-at .taken)) (other-count (sameName (args-at .chunk .now) (args-at .edits .now)) (args-at .buffers .now) (args-at .variables .now) (args-at .types .now) (args-at .other-buffers .now) (args-at .other-variables .now) (args-at .other-types .now) (loop-at .i) (loop-at .first) (buffer-at-at .ensures) (buffer-at2-at .ensures) (loop-at .inv .1 .0) (loop-at .inv .1 .1 .0) (sym (same-fields-at .ensures) ∙ not-false _ (if1-at .left)) (if2-at .taken)))
+    sym (loop-at .inv .1 .1 .1 .1 .1 ∙ equal-stops (sameBuffer (sameName (args-at .chunk .now) (args-at .edits .now)) (sameName (args-at .chunk .now) (args-at .edits .now))) (bufferInTable (args-at .buffers .now) (args-at .variables .now) (args-at .types .now)) (bufferInTable (args-at .other-buffers .now) (args-at .other-variables .now) (args-at .other-types .now)) 0 (args-at .count) (loop-at .i) (loop-at .i) (omega arith) (omega (arith, loop-test-at .taken)) (other-count (sameName (args-at .chunk .now) (args-at .edits .now)) (args-at .buffers .now) (args-at .variables .now) (args-at .types .now) (args-at .other-buffers .now) (args-at .other-variables .now) (args-at .other-types .now) (loop-at .i) (loop-at .first) (buffer-at-at .ensures) (buffer-at2-at .ensures) (loop-at .inv .1 .0) (loop-at .inv .1 .1 .0) (sym (same-fields-at .ensures) ∙ not-false _ (if1-at .left)) (if2-at .taken)))
 
 cast-own : tie.Need-cast-own Inv-loop μ-loop
 cast-own c = search needs
@@ -97,7 +97,7 @@ returns-3 c =
     let loop-test-at = c .before .before .before .before .before .before .before .before .before .before .before .loop-test in
     let loop-at = c .before .before .before .before .before .before .before .before .before .before .before .before .loop in
     let args-at = c .before .before .before .before .before .before .before .before .before .before .before .before .before .before .before .before .before .before .before .before .before .args in
-    sym (loop-at .inv .1 .1 .1 .1 .1 ∙ equal-stops (sameBuffer (sameName (args-at .chunk .now) (args-at .edits .now)) (sameName (args-at .chunk .now) (args-at .edits .now))) (bufferHeld (args-at .buffers .now) (args-at .variables .now) (args-at .types .now)) (bufferHeld (args-at .other-buffers .now) (args-at .other-variables .now) (args-at .other-types .now)) 0 (args-at .count) (loop-at .i) (loop-at .i) (omega arith) (omega (arith, loop-test-at .taken)) (as-variables (sameName (args-at .chunk .now) (args-at .edits .now)) (args-at .buffers .now) (args-at .variables .now) (args-at .types .now) (args-at .other-buffers .now) (args-at .other-variables .now) (args-at .other-types .now) (loop-at .i) (loop-at .first) (buffer-at-at .ensures) (buffer-at2-at .ensures) (loop-at .inv .1 .0) (loop-at .inv .1 .1 .0) (sym (same-fields-at .ensures) ∙ not-false _ (if1-at .left)) (if2-at .left) ∙ sym (same-variables-at .ensures .answer) ∙ not-true _ (if3-at .taken)))
+    sym (loop-at .inv .1 .1 .1 .1 .1 ∙ equal-stops (sameBuffer (sameName (args-at .chunk .now) (args-at .edits .now)) (sameName (args-at .chunk .now) (args-at .edits .now))) (bufferInTable (args-at .buffers .now) (args-at .variables .now) (args-at .types .now)) (bufferInTable (args-at .other-buffers .now) (args-at .other-variables .now) (args-at .other-types .now)) 0 (args-at .count) (loop-at .i) (loop-at .i) (omega arith) (omega (arith, loop-test-at .taken)) (as-variables (sameName (args-at .chunk .now) (args-at .edits .now)) (args-at .buffers .now) (args-at .variables .now) (args-at .types .now) (args-at .other-buffers .now) (args-at .other-variables .now) (args-at .other-types .now) (loop-at .i) (loop-at .first) (buffer-at-at .ensures) (buffer-at2-at .ensures) (loop-at .inv .1 .0) (loop-at .inv .1 .1 .0) (sym (same-fields-at .ensures) ∙ not-false _ (if1-at .left)) (if2-at .left) ∙ sym (same-variables-at .ensures .answer) ∙ not-true _ (if3-at .taken)))
 
 add-first : tie.Need-add-first Inv-loop μ-loop
 unfolding countAt
@@ -140,14 +140,14 @@ loop-again c =
     let own-first : loop-at .first + buffer-at-at .result .«variable_count» ≡ firstVariable (args-at .buffers .now) (loop-at .i + 1) = (λ z. loop-at .inv .1 .0 z + buffer-at-at .ensures z .«variable_count») ∙ sym (first-next (args-at .buffers .now) (loop-at .i)) in
     let other-first : loop-at .first + buffer-at-at .result .«variable_count» ≡ firstVariable (args-at .other-buffers .now) (loop-at .i + 1) = (λ z. loop-at .inv .1 .1 .0 z + (if2-at .left ∙ ap (λ (b : BufferRecord). b .«variable_count») (buffer-at2-at .ensures)) z) ∙ sym (first-next (args-at .other-buffers .now) (loop-at .i)) in
     let equal = not-false _ (if3-at .left) in
-    (omega (arith, loop-test-at .taken), (own-first, (other-first, (same-variables-at .ensures .root equal, (same-variables-at .ensures .other-root equal, loop-at .inv .1 .1 .1 .1 .1 ∙ equal-onward (sameBuffer (sameName (args-at .chunk .now) (args-at .edits .now)) (sameName (args-at .chunk .now) (args-at .edits .now))) (bufferHeld (args-at .buffers .now) (args-at .variables .now) (args-at .types .now)) (bufferHeld (args-at .other-buffers .now) (args-at .other-variables .now) (args-at .other-types .now)) 0 (args-at .count) (loop-at .i) (loop-at .i) (omega arith) (omega (arith, loop-test-at .taken)) (as-variables (sameName (args-at .chunk .now) (args-at .edits .now)) (args-at .buffers .now) (args-at .variables .now) (args-at .types .now) (args-at .other-buffers .now) (args-at .other-variables .now) (args-at .other-types .now) (loop-at .i) (loop-at .first) (buffer-at-at .ensures) (buffer-at2-at .ensures) (loop-at .inv .1 .0) (loop-at .inv .1 .1 .0) (sym (same-fields-at .ensures) ∙ not-false _ (if1-at .left)) (if2-at .left) ∙ sym (same-variables-at .ensures .answer) ∙ equal))))))
+    (omega (arith, loop-test-at .taken), (own-first, (other-first, (same-variables-at .ensures .root equal, (same-variables-at .ensures .other-root equal, loop-at .inv .1 .1 .1 .1 .1 ∙ equal-onward (sameBuffer (sameName (args-at .chunk .now) (args-at .edits .now)) (sameName (args-at .chunk .now) (args-at .edits .now))) (bufferInTable (args-at .buffers .now) (args-at .variables .now) (args-at .types .now)) (bufferInTable (args-at .other-buffers .now) (args-at .other-variables .now) (args-at .other-types .now)) 0 (args-at .count) (loop-at .i) (loop-at .i) (omega arith) (omega (arith, loop-test-at .taken)) (as-variables (sameName (args-at .chunk .now) (args-at .edits .now)) (args-at .buffers .now) (args-at .variables .now) (args-at .types .now) (args-at .other-buffers .now) (args-at .other-variables .now) (args-at .other-types .now) (loop-at .i) (loop-at .first) (buffer-at-at .ensures) (buffer-at2-at .ensures) (loop-at .inv .1 .0) (loop-at .inv .1 .1 .0) (sym (same-fields-at .ensures) ∙ not-false _ (if1-at .left)) (if2-at .left) ∙ sym (same-variables-at .ensures .answer) ∙ equal))))))
 
 returns-4 : tie.Need-returns-4 Inv-loop μ-loop
 returns-4 c =
     let loop-test-at = c .loop-test in
     let loop-at = c .before .loop in
     let args-at = c .before .before .before .before .before .before .before .before .before .before .args in
-    sym (loop-at .inv .1 .1 .1 .1 .1 ∙ equal-end (sameBuffer (sameName (args-at .chunk .now) (args-at .edits .now)) (sameName (args-at .chunk .now) (args-at .edits .now))) (bufferHeld (args-at .buffers .now) (args-at .variables .now) (args-at .types .now)) (bufferHeld (args-at .other-buffers .now) (args-at .other-variables .now) (args-at .other-types .now)) 0 (args-at .count) (loop-at .i) (omega (arith, loop-test-at .left)))
+    sym (loop-at .inv .1 .1 .1 .1 .1 ∙ equal-end (sameBuffer (sameName (args-at .chunk .now) (args-at .edits .now)) (sameName (args-at .chunk .now) (args-at .edits .now))) (bufferInTable (args-at .buffers .now) (args-at .variables .now) (args-at .types .now)) (bufferInTable (args-at .other-buffers .now) (args-at .other-variables .now) (args-at .other-types .now)) 0 (args-at .count) (loop-at .i) (omega (arith, loop-test-at .left)))
 
 pub same-buffers-spec : {M : Type 1} → statement M
 same-buffers-spec =

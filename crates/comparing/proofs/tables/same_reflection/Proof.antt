@@ -4,7 +4,7 @@ use Prim.Native.Nat.{ℕ}
 use native.Mathlib.Omega.{arith}
 use borrow.Author.Tests.{not-true, not-false}
 use Rattle.type_equality.specs.Same.{sameName}
-use Rattle.table_placing.specs.Held.{rootAt, firstVariable}
+use Rattle.table_placing.specs.TableReflection.{rootAt, firstVariable}
 use Rattle.comparing.proofs.Buffers.{other-header, other-creator, other-binding-count, unequal-bindings, other-buffer-count, by-buffers}
 use borrow.Author.Needs.{needs}
 use Rattle.comparing.proofs.tables.same_reflection.Statement.{statement}

@@ -9,7 +9,7 @@ use Rattle.reflection.specs.Decode.{recordsFrom}
 use Rattle.writing.specs.Same.{sameList, sameVariable}
 use Rattle.type_equality.specs.Same.{sameName}
 use Rattle.type_equality.specs.Trees.{treeAt}
-use Rattle.table_placing.specs.Held.{rootAt, variableHeld}
+use Rattle.table_placing.specs.TableReflection.{rootAt, variableInTable}
 use Rattle.comparing.proofs.Walks.{rest-equal, equal-start, equal-onward, equal-stops, equal-end, root-next, root-below}
 use Rattle.comparing.proofs.Buffers.{is-variable}
 use borrow.Author.Needs.{needs}
@@ -21,8 +21,8 @@ Inv-loop chunk edits variables types other-variables other-types first count roo
     (i ≤ count)
     × ((k ≡ rootAt types (first + i))
     × ((l ≡ rootAt other-types (first + i))
-    × (sameList (sameVariable (sameName chunk edits) (sameName chunk edits)) (recordsFrom (variableHeld variables types) first count) (recordsFrom (variableHeld other-variables other-types) first count)
-    ≡ rest-equal (sameVariable (sameName chunk edits) (sameName chunk edits)) (variableHeld variables types) (variableHeld other-variables other-types) first count i)))
+    × (sameList (sameVariable (sameName chunk edits) (sameName chunk edits)) (recordsFrom (variableInTable variables types) first count) (recordsFrom (variableInTable other-variables other-types) first count)
+    ≡ rest-equal (sameVariable (sameName chunk edits) (sameName chunk edits)) (variableInTable variables types) (variableInTable other-variables other-types) first count i)))
 
 abbrev μ-loop : tie.MeasureT-loop
 μ-loop chunk edits variables types other-variables other-types first count root other-root i₀ k₀ l₀ i k l = count - i
@@ -31,7 +31,7 @@ loop-holds : tie.Need-loop-holds Inv-loop μ-loop
 loop-holds c =
     let args-at = c .before .before .before .before .before .before .args in
     let pre-at = c .before .before .before .before .before .before .pre in
-    (omega arith, (pre-at .0 .0 ∙ ap (rootAt (args-at .types .now)) (sym (add-zero (args-at .first))), (pre-at .0 .1 ∙ ap (rootAt (args-at .other-types .now)) (sym (add-zero (args-at .first))), equal-start (sameVariable (sameName (args-at .chunk .now) (args-at .edits .now)) (sameName (args-at .chunk .now) (args-at .edits .now))) (variableHeld (args-at .variables .now) (args-at .types .now)) (variableHeld (args-at .other-variables .now) (args-at .other-types .now)) (args-at .first) (args-at .count))))
+    (omega arith, (pre-at .0 .0 ∙ ap (rootAt (args-at .types .now)) (sym (add-zero (args-at .first))), (pre-at .0 .1 ∙ ap (rootAt (args-at .other-types .now)) (sym (add-zero (args-at .first))), equal-start (sameVariable (sameName (args-at .chunk .now) (args-at .edits .now)) (sameName (args-at .chunk .now) (args-at .edits .now))) (variableInTable (args-at .variables .now) (args-at .types .now)) (variableInTable (args-at .other-variables .now) (args-at .other-types .now)) (args-at .first) (args-at .count))))
 
 add-variable-at : tie.Need-add-variable-at Inv-loop μ-loop
 add-variable-at c =
@@ -66,7 +66,7 @@ returns c =
     let args-at = c .before .before .before .before .before .before .before .before .before .before .before .before .args in
     let x-is = sym (is-variable (args-at .variables .now) (args-at .types .now) (args-at .first + loop-at .i) (variable-at-at .ensures) (loop-at .inv .1 .0)) in
     let y-is = sym (is-variable (args-at .other-variables .now) (args-at .other-types .now) (args-at .first + loop-at .i) (variable-at2-at .ensures) (loop-at .inv .1 .1 .0)) in
-    record { answer = sym (loop-at .inv .1 .1 .1 ∙ equal-stops (sameVariable (sameName (args-at .chunk .now) (args-at .edits .now)) (sameName (args-at .chunk .now) (args-at .edits .now))) (variableHeld (args-at .variables .now) (args-at .types .now)) (variableHeld (args-at .other-variables .now) (args-at .other-types .now)) (args-at .first) (args-at .count) (loop-at .i) (args-at .first + loop-at .i) refl (omega arith) ((λ z. sameVariable (sameName (args-at .chunk .now) (args-at .edits .now)) (sameName (args-at .chunk .now) (args-at .edits .now)) (x-is z) (y-is z)) ∙ sym (same-variable-at .ensures) ∙ not-true _ (if1-at .taken))); root = λ e. absurd (let apart : _≡_ {A = ℕ} 0 1 = cc in omega arith); other-root = λ e. absurd (let apart : _≡_ {A = ℕ} 0 1 = cc in omega arith) }
+    record { answer = sym (loop-at .inv .1 .1 .1 ∙ equal-stops (sameVariable (sameName (args-at .chunk .now) (args-at .edits .now)) (sameName (args-at .chunk .now) (args-at .edits .now))) (variableInTable (args-at .variables .now) (args-at .types .now)) (variableInTable (args-at .other-variables .now) (args-at .other-types .now)) (args-at .first) (args-at .count) (loop-at .i) (args-at .first + loop-at .i) refl (omega arith) ((λ z. sameVariable (sameName (args-at .chunk .now) (args-at .edits .now)) (sameName (args-at .chunk .now) (args-at .edits .now)) (x-is z) (y-is z)) ∙ sym (same-variable-at .ensures) ∙ not-true _ (if1-at .taken))); root = λ e. absurd (let apart : _≡_ {A = ℕ} 0 1 = cc in omega arith); other-root = λ e. absurd (let apart : _≡_ {A = ℕ} 0 1 = cc in omega arith) }
 
 skip-type-requires : tie.Need-skip-type-requires Inv-loop μ-loop
 skip-type-requires c κs =
@@ -101,14 +101,14 @@ loop-again c =
     let args-at = c .before .before .before .before .before .before .before .before .before .before .before .before .before .before .args in
     let x-is = sym (is-variable (args-at .variables .now) (args-at .types .now) (args-at .first + loop-at .i) (variable-at-at .ensures) (loop-at .inv .1 .0)) in
     let y-is = sym (is-variable (args-at .other-variables .now) (args-at .other-types .now) (args-at .first + loop-at .i) (variable-at2-at .ensures) (loop-at .inv .1 .1 .0)) in
-    (omega (arith, loop-test-at .taken), (skip-type-at .ensures ∙ ap (λ (k : ℕ). treeAt (args-at .types .now) typeLevels k .next) (loop-at .inv .1 .0) ∙ sym (root-next (args-at .types .now) (args-at .first + loop-at .i)) ∙ ap (rootAt (args-at .types .now)) (omega arith), (skip-type2-at .ensures ∙ ap (λ (k : ℕ). treeAt (args-at .other-types .now) typeLevels k .next) (loop-at .inv .1 .1 .0) ∙ sym (root-next (args-at .other-types .now) (args-at .first + loop-at .i)) ∙ ap (rootAt (args-at .other-types .now)) (omega arith), loop-at .inv .1 .1 .1 ∙ equal-onward (sameVariable (sameName (args-at .chunk .now) (args-at .edits .now)) (sameName (args-at .chunk .now) (args-at .edits .now))) (variableHeld (args-at .variables .now) (args-at .types .now)) (variableHeld (args-at .other-variables .now) (args-at .other-types .now)) (args-at .first) (args-at .count) (loop-at .i) (args-at .first + loop-at .i) refl (omega (arith, loop-test-at .taken)) ((λ z. sameVariable (sameName (args-at .chunk .now) (args-at .edits .now)) (sameName (args-at .chunk .now) (args-at .edits .now)) (x-is z) (y-is z)) ∙ sym (same-variable-at .ensures) ∙ not-false _ (if1-at .left)))))
+    (omega (arith, loop-test-at .taken), (skip-type-at .ensures ∙ ap (λ (k : ℕ). treeAt (args-at .types .now) typeLevels k .next) (loop-at .inv .1 .0) ∙ sym (root-next (args-at .types .now) (args-at .first + loop-at .i)) ∙ ap (rootAt (args-at .types .now)) (omega arith), (skip-type2-at .ensures ∙ ap (λ (k : ℕ). treeAt (args-at .other-types .now) typeLevels k .next) (loop-at .inv .1 .1 .0) ∙ sym (root-next (args-at .other-types .now) (args-at .first + loop-at .i)) ∙ ap (rootAt (args-at .other-types .now)) (omega arith), loop-at .inv .1 .1 .1 ∙ equal-onward (sameVariable (sameName (args-at .chunk .now) (args-at .edits .now)) (sameName (args-at .chunk .now) (args-at .edits .now))) (variableInTable (args-at .variables .now) (args-at .types .now)) (variableInTable (args-at .other-variables .now) (args-at .other-types .now)) (args-at .first) (args-at .count) (loop-at .i) (args-at .first + loop-at .i) refl (omega (arith, loop-test-at .taken)) ((λ z. sameVariable (sameName (args-at .chunk .now) (args-at .edits .now)) (sameName (args-at .chunk .now) (args-at .edits .now)) (x-is z) (y-is z)) ∙ sym (same-variable-at .ensures) ∙ not-false _ (if1-at .left)))))
 
 returns-2 : tie.Need-returns-2 Inv-loop μ-loop
 returns-2 c =
     let loop-at = c .before .loop in
     let args-at = c .before .before .before .before .before .before .before .before .args in
     let done : loop-at .i ≡ args-at .count = omega arith in
-    record { answer = sym (loop-at .inv .1 .1 .1 ∙ equal-end (sameVariable (sameName (args-at .chunk .now) (args-at .edits .now)) (sameName (args-at .chunk .now) (args-at .edits .now))) (variableHeld (args-at .variables .now) (args-at .types .now)) (variableHeld (args-at .other-variables .now) (args-at .other-types .now)) (args-at .first) (args-at .count) (loop-at .i) (omega arith)); root = λ e. loop-at .inv .1 .0 ∙ ap (λ (n : ℕ). rootAt (args-at .types .now) (args-at .first + n)) done; other-root = λ e. loop-at .inv .1 .1 .0 ∙ ap (λ (n : ℕ). rootAt (args-at .other-types .now) (args-at .first + n)) done }
+    record { answer = sym (loop-at .inv .1 .1 .1 ∙ equal-end (sameVariable (sameName (args-at .chunk .now) (args-at .edits .now)) (sameName (args-at .chunk .now) (args-at .edits .now))) (variableInTable (args-at .variables .now) (args-at .types .now)) (variableInTable (args-at .other-variables .now) (args-at .other-types .now)) (args-at .first) (args-at .count) (loop-at .i) (omega arith)); root = λ e. loop-at .inv .1 .0 ∙ ap (λ (n : ℕ). rootAt (args-at .types .now) (args-at .first + n)) done; other-root = λ e. loop-at .inv .1 .1 .0 ∙ ap (λ (n : ℕ). rootAt (args-at .other-types .now) (args-at .first + n)) done }
 
 pub same-variables-spec : {M : Type 1} → statement M
 same-variables-spec =

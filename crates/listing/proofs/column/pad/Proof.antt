@@ -4,7 +4,7 @@ use Prim.Native.Nat.{_-_}
 use native.Mathlib.Omega.{arith}
 use lib.ListN.{replicate}
 use lib.Seq.{length-take-le}
-use Rattle.words.specs.Splice.{put-none}
+use Rattle.words.proofs.Splice.{put-none}
 use Rattle.listing.proofs.Padding.{take-replicate}
 use borrow.Author.Needs.{needs}
 use Rattle.listing.proofs.column.pad.Statement.{statement}

@@ -2,7 +2,7 @@
 use mathlib.Core.Path.{_≡_}
 use Prim.Native.Nat.{_-_}
 use native.Mathlib.Omega.{arith}
-use Rattle.words.specs.Splice.{put-then}
+use Rattle.words.proofs.Splice.{put-then}
 use Rattle.emit.specs.Digits.{decimal}
 use Rattle.listing.specs.Listing.{scalars, padTo}
 use Rattle.emit.proofs.Digits.{decimal-at-most}

@@ -1,6 +1,6 @@
 -- `put_padded` meets its contract: the text, then the spaces.
 use native.Mathlib.Omega.{arith}
-use Rattle.words.specs.Splice.{put-then}
+use Rattle.words.proofs.Splice.{put-then}
 use Rattle.listing.specs.Listing.{padTo}
 use Rattle.listing.proofs.Padding.{length-padded}
 use borrow.Author.Needs.{needs}

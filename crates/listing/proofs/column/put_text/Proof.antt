@@ -1,5 +1,5 @@
 -- `put_text` meets its contract: a space, then the text, filled up.
-use Rattle.words.specs.Splice.{put-then}
+use Rattle.words.proofs.Splice.{put-then}
 use borrow.Author.Needs.{needs}
 use Rattle.listing.proofs.column.put_text.Statement.{statement}
 use Rattle.listing.proofs.column.put_text.Tie as tie

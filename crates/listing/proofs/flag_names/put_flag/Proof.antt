@@ -1,7 +1,7 @@
 -- `put_flag` meets its contract: nothing, a first name, or a `;` and a name.
 use native.Mathlib.Omega.{arith}
 use borrow.Author.Tests.{not-true, not-false}
-use Rattle.words.specs.Splice.{put-then}
+use Rattle.words.proofs.Splice.{put-then}
 use Rattle.listing.proofs.Joined.{joined-nil, put-first, put-next}
 use borrow.Author.Needs.{needs}
 use Rattle.listing.proofs.flag_names.put_flag.Statement.{statement}

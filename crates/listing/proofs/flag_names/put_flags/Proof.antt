@@ -1,6 +1,6 @@
 -- `put_flags` meets its contract: nothing, the names, or hex where no name was written.
 use native.Mathlib.Omega.{arith}
-use Rattle.words.specs.Splice.{put-none, put-then}
+use Rattle.words.proofs.Splice.{put-none, put-then}
 use Rattle.listing.proofs.Joined.{no-flags, named-flags, nameless-flags}
 use borrow.Author.Needs.{needs}
 use Rattle.listing.proofs.flag_names.put_flags.Statement.{statement}

@@ -1,6 +1,6 @@
 -- `put_set_names` meets its contract: each name is joined to those before it, in the order of the bits.
 use mathlib.Core.List.{[]}
-use Rattle.words.specs.Splice.{put-none}
+use Rattle.words.proofs.Splice.{put-none}
 use Rattle.listing.proofs.Joined.{five-joined}
 use borrow.Author.Needs.{needs}
 use Rattle.listing.proofs.flag_names.put_set_names.Statement.{statement}

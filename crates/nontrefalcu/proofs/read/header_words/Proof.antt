@@ -1,11 +1,11 @@
 -- `header_words`: the array is the definition's list.
 use mathlib.Core.Path.{refl}
-use Rattle.nontrefalcu.specs.Exports.{headerWords}
+use Rattle.nontrefalcu.specs.Exports.{headerWordsInTable}
 use Rattle.nontrefalcu.proofs.read.header_words.Statement.{statement}
 use Rattle.nontrefalcu.proofs.read.header_words.Tie as tie
 
 returns : tie.Need-returns
-unfolding headerWords
+unfolding headerWordsInTable
 returns c = refl
 
 pub header-words-spec : {M : Type 1} → statement M

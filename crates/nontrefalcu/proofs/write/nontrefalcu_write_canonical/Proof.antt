@@ -2,7 +2,7 @@
 use mathlib.Core.Path.{ap}
 use lib.ListN.{length}
 use Rattle.reflection.specs.declared.ResourceDef.{ResourceDef as Header}
-use Rattle.readable.specs.Readable.{held}
+use Rattle.readable.specs.Readable.{tableContents}
 use Rattle.writing.specs.Outcome.{write}
 use Rattle.nontrefalcu.specs.Writing.{canonicalInto}
 use Rattle.nontrefalcu.proofs.WrittenText.{handed-out, canonical-fits}
@@ -35,7 +35,7 @@ returns c =
     let at-write = at-hand-length .before .before .before .before .before .before in
     let at-header = at-write .before .before .before in
     let a = at-header .before .before .before .before .before .before .before .before .before .before .before .args in
-    let asked = ap (λ (h : Header). write (length (a .scratch .now)) (length (a .out .now)) (held (a .chunk .now) (a .edits .now) h (a .bindings .now) (a .buffers .now) (a .variables .now) (a .types .now))) (at-header .header-at .ensures) in
+    let asked = ap (λ (h : Header). write (length (a .scratch .now)) (length (a .out .now)) (tableContents (a .chunk .now) (a .edits .now) h (a .bindings .now) (a .buffers .now) (a .variables .now) (a .types .now))) (at-header .header-at .ensures) in
     let wrote = at-write .write-rdef-canonical .ensures in
     let handed = handed-out asked _ _ (wrote .0, wrote .1 .0) (at-hand-length .hand-length .ensures) in
     (handed .0, (handed .1 .0, (handed .1 .1, wrote .1 .1)))

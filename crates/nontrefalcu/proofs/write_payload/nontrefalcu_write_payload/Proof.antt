@@ -3,7 +3,7 @@ use mathlib.Core.Path.{ap, _∙_}
 use lib.ListN.{length}
 use Rattle.reflection.specs.declared.ResourceDef.{ResourceDef as Header}
 use Rattle.reflection.specs.Outcome.{Outcome}
-use Rattle.readable.specs.Readable.{held}
+use Rattle.readable.specs.Readable.{tableContents}
 use Rattle.writing.specs.Payload.{Part}
 use Rattle.payload.specs.Answer.{roomEnough, payloadWith, payloadOutput}
 use Rattle.nontrefalcu.specs.PayloadWords.{payloadInto}
@@ -50,7 +50,7 @@ returns c =
     let at-header = at-write .before .before .before .before .before .before .before in
     let a = at-header .before .before .before .before .before .before .before .before .before .before .before .before .before .before .before .args in
     let enough = roomEnough (length (a .found-bindings .now)) (length (a .found-buffers .now)) (length (a .found-variables .now)) (length (a .found-types .now)) (length (a .scratch .now)) in
-    let outcome : Header → Outcome Part = λ (h : Header). payloadWith enough (length (a .out .now)) (a .chunk .now) (held (a .chunk .now) (a .edits .now) h (a .bindings .now) (a .buffers .now) (a .variables .now) (a .types .now)) in
+    let outcome : Header → Outcome Part = λ (h : Header). payloadWith enough (length (a .out .now)) (a .chunk .now) (tableContents (a .chunk .now) (a .edits .now) h (a .bindings .now) (a .buffers .now) (a .variables .now) (a .types .now)) in
     let asked = ap outcome (at-header .header-at .ensures) in
     let wrote = at-write .write-payload .ensures in
     let handed = handed-payload asked (a .chunk .now) _ (wrote .0) (at-hand .hand-payload .ensures) in

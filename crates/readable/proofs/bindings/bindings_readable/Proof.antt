@@ -4,14 +4,14 @@ use mathlib.Core.Path.{_≡_, refl, sym, ap, _∙_}
 use Prim.Native.Nat.{_+_}
 use native.Mathlib.Omega.{arith}
 use borrow.Author.Tests.{not-true, not-false}
-use Rattle.readable.specs.Checks.{bindingHeld, bindingsHeld}
+use Rattle.readable.specs.Checks.{bindingChecked, bindingsChecked}
 use Rattle.readable.proofs.Bools.{both-fails, both-goes-on}
 use Rattle.readable.proofs.RecordTests.{bindings-none, bindings-next}
 use Rattle.readable.proofs.bindings.bindings_readable.Statement.{statement}
 use Rattle.readable.proofs.bindings.bindings_readable.Tie as tie
 
 abbrev Inv-loop : tie.InvT-loop
-Inv-loop chunk edits wide table count i₀ left₀ i left = (bindingsHeld chunk edits wide table 0 count ≡ bindingsHeld chunk edits wide table i left) × (i + left ≡ count)
+Inv-loop chunk edits wide table count i₀ left₀ i left = (bindingsChecked chunk edits wide table 0 count ≡ bindingsChecked chunk edits wide table i left) × (i + left ≡ count)
 
 abbrev μ-loop : tie.MeasureT-loop
 μ-loop chunk edits wide table count i₀ left₀ i left = left
@@ -31,7 +31,7 @@ returns c =
     let turn = c .before .before .before .before in
     sym (turn .loop .inv .0
     ∙ bindings-next (start .args .chunk .now) (start .args .edits .now) (start .args .wide) (start .args .table .now) (turn .loop .i) (turn .loop .left) (c .before .before .before .loop-test .taken)
-    ∙ both-fails _ _ (sym (c .before .binding-readable .ensures ∙ ap (bindingHeld (start .args .chunk .now) (start .args .edits .now) (start .args .wide)) (c .before .before .binding-at .ensures)) ∙ not-true (c .before .binding-readable .result) (c .if1 .taken)))
+    ∙ both-fails _ _ (sym (c .before .binding-readable .ensures ∙ ap (bindingChecked (start .args .chunk .now) (start .args .edits .now) (start .args .wide)) (c .before .before .binding-at .ensures)) ∙ not-true (c .before .binding-readable .result) (c .if1 .taken)))
 
 add-i : tie.Need-add-i Inv-loop μ-loop
 add-i c = search needs
@@ -48,7 +48,7 @@ loop-again c =
     let turn = c .before .before .before .before in (
       turn .loop .inv .0
           ∙ bindings-next (start .args .chunk .now) (start .args .edits .now) (start .args .wide) (start .args .table .now) (turn .loop .i) (turn .loop .left) (c .before .before .before .loop-test .taken)
-          ∙ both-goes-on _ _ (sym (c .before .binding-readable .ensures ∙ ap (bindingHeld (start .args .chunk .now) (start .args .edits .now) (start .args .wide)) (c .before .before .binding-at .ensures)) ∙ not-false (c .before .binding-readable .result) (c .if1 .left)),
+          ∙ both-goes-on _ _ (sym (c .before .binding-readable .ensures ∙ ap (bindingChecked (start .args .chunk .now) (start .args .edits .now) (start .args .wide)) (c .before .before .binding-at .ensures)) ∙ not-false (c .before .binding-readable .result) (c .if1 .left)),
       omega arith,
     )
 

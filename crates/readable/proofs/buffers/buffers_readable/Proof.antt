@@ -4,13 +4,13 @@ use mathlib.Core.Path.{_≡_, refl, sym, _∙_}
 use Prim.Native.Nat.{_+_}
 use native.Mathlib.Omega.{arith}
 use borrow.Author.Tests.{not-true, not-false}
-use Rattle.readable.specs.Checks.{buffersHeld}
+use Rattle.readable.specs.Checks.{buffersChecked}
 use Rattle.readable.proofs.RecordTests.{buffers-none, buffer-name-fails, buffer-count-fails, buffer-passes}
 use Rattle.readable.proofs.buffers.buffers_readable.Statement.{statement}
 use Rattle.readable.proofs.buffers.buffers_readable.Tie as tie
 
 abbrev Inv-loop : tie.InvT-loop
-Inv-loop chunk edits table count variables i₀ left₀ rest₀ i left rest = (buffersHeld chunk edits table 0 count variables ≡ buffersHeld chunk edits table i left rest) × (i + left ≡ count)
+Inv-loop chunk edits table count variables i₀ left₀ rest₀ i left rest = (buffersChecked chunk edits table 0 count variables ≡ buffersChecked chunk edits table i left rest) × (i + left ≡ count)
 
 abbrev μ-loop : tie.MeasureT-loop
 μ-loop chunk edits table count variables i₀ left₀ rest₀ i left rest = left

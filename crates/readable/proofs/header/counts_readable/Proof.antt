@@ -1,5 +1,5 @@
 -- `counts_readable` meets its contract: its four tests are those of the definition, joined in the same order. Assumes nothing.
-use Rattle.readable.specs.Checks.{countsHeld}
+use Rattle.readable.specs.Checks.{countsChecked}
 use Rattle.readable.proofs.Bools.{both-are}
 use borrow.Author.Needs.{needs}
 use Rattle.readable.proofs.header.counts_readable.Statement.{statement}
@@ -27,7 +27,7 @@ both-requires-3 : tie.Need-both-requires-3
 both-requires-3 c κs = search needs
 
 returns : tie.Need-returns
-unfolding countsHeld
+unfolding countsChecked
 returns c =
     both-are (c .both3 .ensures) (c .before .before .before .before .before .before .count-readable .ensures)
     (both-are (c .before .both2 .ensures) (c .before .before .before .before .before .count-readable2 .ensures)

@@ -1,5 +1,5 @@
 -- `default_readable` meets its contract: its tests are those of the definition. Assumes nothing.
-use Rattle.readable.specs.Checks.{defaultHeld}
+use Rattle.readable.specs.Checks.{defaultChecked}
 use Rattle.readable.proofs.Bools.{both-are, either-are}
 use borrow.Author.Needs.{needs}
 use Rattle.readable.proofs.names.default_readable.Statement.{statement}
@@ -21,7 +21,7 @@ both-requires : tie.Need-both-requires
 both-requires c κs = search needs
 
 returns : tie.Need-returns
-unfolding defaultHeld
+unfolding defaultChecked
 returns c =
     both-are (c .both .ensures) (c .before .in-place .ensures)
     (either-are (c .before .before .either .ensures) (c .before .before .before .before .same .ensures) (c .before .before .before .same2 .ensures))

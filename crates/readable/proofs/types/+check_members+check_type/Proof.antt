@@ -6,8 +6,8 @@ use native.Mathlib.Omega.{arith}
 use borrow.Author.Needs.{needs}
 use borrow.Author.Tests.{not-true, not-false}
 use Rattle.reflection.specs.declared.TypeDesc.{TypeDesc}
-use Rattle.reflection.specs.Decode.{nodeFrom}
-use Rattle.readable.specs.Checks.{nodeHeld, membersLeft, typeLeft, nodesFrom, leftBy, NextWithin}
+use Rattle.reflection.specs.Decode.{nodeFromTable}
+use Rattle.readable.specs.Checks.{nodeChecked, membersLeft, typeLeft, nodesFrom, leftBy, NextWithin}
 use Rattle.readable.proofs.WalkTests.{no-level, no-node, node-fails, node-passes, members-done, member-fails, member-passes}
 use Prim.Native.Nat.{ℕ, _+_, _-_, _<_, _≤_}
 use borrow.Fn.Kinds.{In}
@@ -50,7 +50,7 @@ check-type-below t =
     and 3 check-type-kinds.ps (falls 3 check-type-kinds.ps _<_ μ-check-type t) check-type.Pre
 
 abbrev check-members-Inv-loop : check-members-lts.InvT-loop
-check-members-Inv-loop chunk edits sm5 types count levels n k next₀ left₀ next left = (membersLeft (typeLeft (nodeHeld chunk edits sm5) true levels) n (nodesFrom types k (count - k)) ≡ membersLeft (typeLeft (nodeHeld chunk edits sm5) true levels) left (nodesFrom types next (count - next))) × (next ≤ count)
+check-members-Inv-loop chunk edits sm5 types count levels n k next₀ left₀ next left = (membersLeft (typeLeft (nodeChecked chunk edits sm5) true levels) n (nodesFrom types k (count - k)) ≡ membersLeft (typeLeft (nodeChecked chunk edits sm5) true levels) left (nodesFrom types next (count - next))) × (next ≤ count)
 
 abbrev check-members-μ-loop : check-members-lts.MeasureT-loop
 check-members-μ-loop chunk edits sm5 types count levels n k next₀ left₀ next left = left
@@ -82,7 +82,7 @@ check-members-returns t c =
     let turn = c .before .before .before .before in
     record {
       outcome = turn .loop .inv .0
-          ∙ member-fails (typeLeft (nodeHeld (start .args .chunk .now) (start .args .edits .now) (start .args .sm5)) true (start .args .levels)) (turn .loop .left) (nodesFrom (start .args .types .now) (turn .loop .next) (start .args .count - turn .loop .next)) (c .before .before .before .loop-test .taken) (c .before .before .check-type .ensures .outcome ∙ ap (leftBy (start .args .types .now) (start .args .count)) (c .enum-told .given .1));
+          ∙ member-fails (typeLeft (nodeChecked (start .args .chunk .now) (start .args .edits .now) (start .args .sm5)) true (start .args .levels)) (turn .loop .left) (nodesFrom (start .args .types .now) (turn .loop .next) (start .args .count - turn .loop .next)) (c .before .before .before .loop-test .taken) (c .before .before .check-type .ensures .outcome ∙ ap (leftBy (start .args .types .now) (start .args .count)) (c .enum-told .given .1));
       within = tt;
     }
 
@@ -112,7 +112,7 @@ check-members-loop-again t c =
     let start = c .before .before .before .before .before .before .before .before .before in
     let turn = c .before .before .before .before .before in (
       turn .loop .inv .0
-          ∙ member-passes (typeLeft (nodeHeld (start .args .chunk .now) (start .args .edits .now) (start .args .sm5)) true (start .args .levels)) (turn .loop .left) (nodesFrom (start .args .types .now) (turn .loop .next) (start .args .count - turn .loop .next)) (nodesFrom (start .args .types .now) (c .before .answer .given .0 .0) (start .args .count - c .before .answer .given .0 .0)) (c .before .before .before .before .loop-test .taken) (c .before .before .before .check-type .ensures .outcome ∙ ap (leftBy (start .args .types .now) (start .args .count)) (c .before .answer .given .1)),
+          ∙ member-passes (typeLeft (nodeChecked (start .args .chunk .now) (start .args .edits .now) (start .args .sm5)) true (start .args .levels)) (turn .loop .left) (nodesFrom (start .args .types .now) (turn .loop .next) (start .args .count - turn .loop .next)) (nodesFrom (start .args .types .now) (c .before .answer .given .0 .0) (start .args .count - c .before .answer .given .0 .0)) (c .before .before .before .before .loop-test .taken) (c .before .before .before .check-type .ensures .outcome ∙ ap (leftBy (start .args .types .now) (start .args .count)) (c .before .answer .given .1)),
       subst (NextWithin (start .args .count)) (c .before .answer .given .1) (c .before .before .before .check-type .ensures .within),
     )
 
@@ -125,7 +125,7 @@ check-members-returns-2 t c =
     let turn = c .before in
     record {
       outcome = turn .loop .inv .0
-          ∙ members-done (typeLeft (nodeHeld (start .args .chunk .now) (start .args .edits .now) (start .args .sm5)) true (start .args .levels)) (turn .loop .left) (nodesFrom (start .args .types .now) (turn .loop .next) (start .args .count - turn .loop .next)) (c .loop-test .left);
+          ∙ members-done (typeLeft (nodeChecked (start .args .chunk .now) (start .args .edits .now) (start .args .sm5)) true (start .args .levels)) (turn .loop .left) (nodesFrom (start .args .types .now) (turn .loop .next) (start .args .count - turn .loop .next)) (c .loop-test .left);
       within = turn .loop .inv .1;
     }
 
@@ -139,7 +139,7 @@ check-type-returns : (t : ℕ) → check-type-lts.Need-returns (
 ) (check-type-at t) check-type.Post
 check-type-returns t c =
     let start = c .before .before .before .before in
-    record { outcome = no-level (start .args .types .now) (nodeHeld (start .args .chunk .now) (start .args .edits .now) (start .args .sm5)) (start .args .inner) (start .args .levels) (nodesFrom (start .args .types .now) (start .args .k) (start .args .count - start .args .k)) (c .if1 .taken); within = tt }
+    record { outcome = no-level (start .args .types .now) (nodeChecked (start .args .chunk .now) (start .args .edits .now) (start .args .sm5)) (start .args .inner) (start .args .levels) (nodesFrom (start .args .types .now) (start .args .k) (start .args .count - start .args .k)) (c .if1 .taken); within = tt }
 
 check-type-returns-2 : (t : ℕ) → check-type-lts.Need-returns-2 (
   type-at-reads.Asked,
@@ -151,7 +151,7 @@ check-type-returns-2 : (t : ℕ) → check-type-lts.Need-returns-2 (
 ) (check-type-at t) check-type.Post
 check-type-returns-2 t c =
     let start = c .before .before .before .before .before in
-    record { outcome = no-node (start .args .types .now) (nodeHeld (start .args .chunk .now) (start .args .edits .now) (start .args .sm5)) (start .args .inner) (start .args .levels) (start .args .k) (start .args .count) (c .if2 .taken); within = tt }
+    record { outcome = no-node (start .args .types .now) (nodeChecked (start .args .chunk .now) (start .args .edits .now) (start .args .sm5)) (start .args .inner) (start .args .levels) (start .args .k) (start .args .count) (c .if2 .taken); within = tt }
 
 check-type-type-at-requires : (t : ℕ) → check-type-lts.Need-type-at-requires (
   type-at-reads.Asked,
@@ -183,7 +183,7 @@ check-type-returns-3 : (t : ℕ) → check-type-lts.Need-returns-3 (
 ) (check-type-at t) check-type.Post
 check-type-returns-3 t c =
     let start = c .before .before .before .before .before .before .before .before in
-    record { outcome = node-fails (start .args .types .now) (nodeHeld (start .args .chunk .now) (start .args .edits .now) (start .args .sm5)) (start .args .inner) (start .args .levels) (start .args .k) (start .args .count) (c .before .before .before .before .if1 .left) (c .before .before .before .if2 .left) (sym (c .before .node-readable .ensures ∙ ap (λ (d : TypeDesc). nodeHeld (start .args .chunk .now) (start .args .edits .now) (start .args .sm5) (start .args .inner) (nodeFrom d)) (c .before .before .type-at .ensures)) ∙ not-true (c .before .node-readable .result) (c .if3 .taken)); within = tt }
+    record { outcome = node-fails (start .args .types .now) (nodeChecked (start .args .chunk .now) (start .args .edits .now) (start .args .sm5)) (start .args .inner) (start .args .levels) (start .args .k) (start .args .count) (c .before .before .before .before .if1 .left) (c .before .before .before .if2 .left) (sym (c .before .node-readable .ensures ∙ ap (λ (d : TypeDesc). nodeChecked (start .args .chunk .now) (start .args .edits .now) (start .args .sm5) (start .args .inner) (nodeFromTable d)) (c .before .before .type-at .ensures)) ∙ not-true (c .before .node-readable .result) (c .if3 .taken)); within = tt }
 
 check-type-sub-check-members : (t : ℕ) → check-type-lts.Need-sub-check-members (
   type-at-reads.Asked,
@@ -223,12 +223,12 @@ check-type-returns-4 : (t : ℕ) → check-type-lts.Need-returns-4 (
   check-members-below t,
   check-members.Post,
 ) (check-type-at t) check-type.Post
-unfolding nodeFrom
+unfolding nodeFromTable
 check-type-returns-4 t c =
     let start = c .before .before .before .before .before .before .before .before .before in
     record {
-      outcome = node-passes (start .args .types .now) (nodeHeld (start .args .chunk .now) (start .args .edits .now) (start .args .sm5)) (start .args .inner) (start .args .levels) (start .args .k) (start .args .count) (c .before .before .before .before .before .if1 .left) (c .before .before .before .before .if2 .left) (sym (c .before .before .node-readable .ensures ∙ ap (λ (d : TypeDesc). nodeHeld (start .args .chunk .now) (start .args .edits .now) (start .args .sm5) (start .args .inner) (nodeFrom d)) (c .before .before .before .type-at .ensures)) ∙ not-false (c .before .before .node-readable .result) (c .before .if3 .left))
-          ∙ ap (λ (d : TypeDesc). membersLeft (typeLeft (nodeHeld (start .args .chunk .now) (start .args .edits .now) (start .args .sm5)) true (start .args .levels - 1)) (d .«member_count») (nodesFrom (start .args .types .now) (start .args .k + 1) (start .args .count - (start .args .k + 1)))) (sym (c .before .before .before .type-at .ensures))
+      outcome = node-passes (start .args .types .now) (nodeChecked (start .args .chunk .now) (start .args .edits .now) (start .args .sm5)) (start .args .inner) (start .args .levels) (start .args .k) (start .args .count) (c .before .before .before .before .before .if1 .left) (c .before .before .before .before .if2 .left) (sym (c .before .before .node-readable .ensures ∙ ap (λ (d : TypeDesc). nodeChecked (start .args .chunk .now) (start .args .edits .now) (start .args .sm5) (start .args .inner) (nodeFromTable d)) (c .before .before .before .type-at .ensures)) ∙ not-false (c .before .before .node-readable .result) (c .before .if3 .left))
+          ∙ ap (λ (d : TypeDesc). membersLeft (typeLeft (nodeChecked (start .args .chunk .now) (start .args .edits .now) (start .args .sm5)) true (start .args .levels - 1)) (d .«member_count») (nodesFrom (start .args .types .now) (start .args .k + 1) (start .args .count - (start .args .k + 1)))) (sym (c .before .before .before .type-at .ensures))
           ∙ c .check-members .ensures .outcome;
       within = c .check-members .ensures .within;
     }

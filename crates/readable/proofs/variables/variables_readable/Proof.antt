@@ -4,13 +4,13 @@ use mathlib.Core.Path.{_≡_, sym, ap, subst, _∙_}
 use Prim.Native.Nat.{_+_, _-_, _≤_}
 use native.Mathlib.Omega.{arith}
 use borrow.Author.Tests.{not-true, not-false}
-use Rattle.readable.specs.Checks.{variableHeld, variablesHeld, leftBy, NextWithin}
+use Rattle.readable.specs.Checks.{variableChecked, variablesChecked, leftBy, NextWithin}
 use Rattle.readable.proofs.WalkTests.{variables-done, variable-fails, type-fails, variable-passes}
 use Rattle.readable.proofs.variables.variables_readable.Statement.{statement}
 use Rattle.readable.proofs.variables.variables_readable.Tie as tie
 
 abbrev Inv-loop : tie.InvT-loop
-Inv-loop chunk edits sm5 table types count nodes end i₀ k₀ left₀ i k left = (variablesHeld chunk edits sm5 table types 0 count 0 nodes ≡ variablesHeld chunk edits sm5 table types i left k (end - k)) × (i + left ≡ count) × (k ≤ end)
+Inv-loop chunk edits sm5 table types count nodes end i₀ k₀ left₀ i k left = (variablesChecked chunk edits sm5 table types 0 count 0 nodes ≡ variablesChecked chunk edits sm5 table types i left k (end - k)) × (i + left ≡ count) × (k ≤ end)
 
 abbrev μ-loop : tie.MeasureT-loop
 μ-loop chunk edits sm5 table types count nodes end i₀ k₀ left₀ i k left = left
@@ -18,7 +18,7 @@ abbrev μ-loop : tie.MeasureT-loop
 loop-holds : tie.Need-loop-holds Inv-loop μ-loop
 loop-holds c =
     let start = c .before .before .before .before in (
-      ap (variablesHeld (start .args .chunk .now) (start .args .edits .now) (start .args .sm5) (start .args .table .now) (start .args .types .now) 0 (start .args .count) 0) (omega arith),
+      ap (variablesChecked (start .args .chunk .now) (start .args .edits .now) (start .args .sm5) (start .args .table .now) (start .args .types .now) 0 (start .args .count) 0) (omega arith),
       omega arith,
       omega arith,
     )
@@ -34,7 +34,7 @@ returns c =
     let start = c .before .before .before .before .before .before .before .before .before in
     let turn = c .before .before .before .before in
     sym (turn .loop .inv .0
-    ∙ variable-fails (start .args .chunk .now) (start .args .edits .now) (start .args .sm5) (start .args .table .now) (start .args .types .now) (turn .loop .i) (turn .loop .left) (turn .loop .k) (start .args .nodes) (c .before .before .before .loop-test .taken) (sym (c .before .variable-readable .ensures ∙ ap (variableHeld (start .args .chunk .now) (start .args .edits .now) (start .args .sm5)) (c .before .before .variable-at .ensures)) ∙ not-true (c .before .variable-readable .result) (c .if1 .taken)))
+    ∙ variable-fails (start .args .chunk .now) (start .args .edits .now) (start .args .sm5) (start .args .table .now) (start .args .types .now) (turn .loop .i) (turn .loop .left) (turn .loop .k) (start .args .nodes) (c .before .before .before .loop-test .taken) (sym (c .before .variable-readable .ensures ∙ ap (variableChecked (start .args .chunk .now) (start .args .edits .now) (start .args .sm5)) (c .before .before .variable-at .ensures)) ∙ not-true (c .before .variable-readable .result) (c .if1 .taken)))
 
 check-type-requires : tie.Need-check-type-requires Inv-loop μ-loop
 check-type-requires c κs = c .before .before .before .before .loop .inv .2
@@ -66,7 +66,7 @@ loop-again c =
     let start = c .before .before .before .before .before .before .before .before .before .before .before .before .before in
     let turn = c .before .before .before .before .before .before .before .before in (
       turn .loop .inv .0
-          ∙ variable-passes (start .args .chunk .now) (start .args .edits .now) (start .args .sm5) (start .args .table .now) (start .args .types .now) (turn .loop .i) (turn .loop .left) (turn .loop .k) (c .before .answer .given .0 .0) (start .args .nodes) (c .before .before .before .before .before .before .before .loop-test .taken) (sym (c .before .before .before .before .before .variable-readable .ensures ∙ ap (variableHeld (start .args .chunk .now) (start .args .edits .now) (start .args .sm5)) (c .before .before .before .before .before .before .variable-at .ensures)) ∙ not-false (c .before .before .before .before .before .variable-readable .result) (c .before .before .before .before .if1 .left)) (c .before .before .before .check-type .ensures .outcome ∙ ap (leftBy (start .args .types .now) (start .args .nodes)) (c .before .answer .given .1)),
+          ∙ variable-passes (start .args .chunk .now) (start .args .edits .now) (start .args .sm5) (start .args .table .now) (start .args .types .now) (turn .loop .i) (turn .loop .left) (turn .loop .k) (c .before .answer .given .0 .0) (start .args .nodes) (c .before .before .before .before .before .before .before .loop-test .taken) (sym (c .before .before .before .before .before .variable-readable .ensures ∙ ap (variableChecked (start .args .chunk .now) (start .args .edits .now) (start .args .sm5)) (c .before .before .before .before .before .before .variable-at .ensures)) ∙ not-false (c .before .before .before .before .before .variable-readable .result) (c .before .before .before .before .if1 .left)) (c .before .before .before .check-type .ensures .outcome ∙ ap (leftBy (start .args .types .now) (start .args .nodes)) (c .before .answer .given .1)),
       omega arith,
       subst (NextWithin (start .args .nodes)) (c .before .answer .given .1) (c .before .before .before .check-type .ensures .within),
     )

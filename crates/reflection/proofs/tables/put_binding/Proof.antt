@@ -1,6 +1,6 @@
 -- `put_binding` meets its contract: the array that it fills holds the words of a binding in their order.
 use borrow.Author.Needs.{needs}
-use Rattle.reflection.specs.Records.{bindingWords}
+use Rattle.reflection.specs.Records.{bindingWordsInTable}
 use Rattle.reflection.proofs.tables.put_binding.Statement.{statement}
 use Rattle.reflection.proofs.tables.put_binding.Tie as tie
 
@@ -14,7 +14,7 @@ same-length : tie.Need-same-length
 same-length c = search needs
 
 returns : tie.Need-returns
-unfolding bindingWords
+unfolding bindingWordsInTable
 returns c = c .before .before .put-record .ensures
 
 pub put-binding-spec : {M : Type 1} → statement M

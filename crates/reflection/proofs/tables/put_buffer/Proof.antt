@@ -1,6 +1,6 @@
 -- `put_buffer` meets its contract: the array that it fills holds the words of a buffer in their order.
 use borrow.Author.Needs.{needs}
-use Rattle.reflection.specs.Records.{bufferWords}
+use Rattle.reflection.specs.Records.{bufferWordsInTable}
 use Rattle.reflection.proofs.tables.put_buffer.Statement.{statement}
 use Rattle.reflection.proofs.tables.put_buffer.Tie as tie
 
@@ -14,7 +14,7 @@ same-length : tie.Need-same-length
 same-length c = search needs
 
 returns : tie.Need-returns
-unfolding bufferWords
+unfolding bufferWordsInTable
 returns c = c .before .before .put-record .ensures
 
 pub put-buffer-spec : {M : Type 1} → statement M

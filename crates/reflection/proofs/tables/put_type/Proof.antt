@@ -1,6 +1,6 @@
 -- `put_type` meets its contract: the array that it fills holds the words of a type node in their order.
 use borrow.Author.Needs.{needs}
-use Rattle.reflection.specs.Records.{typeWords}
+use Rattle.reflection.specs.Records.{typeWordsInTable}
 use Rattle.reflection.proofs.tables.put_type.Statement.{statement}
 use Rattle.reflection.proofs.tables.put_type.Tie as tie
 
@@ -14,7 +14,7 @@ same-length : tie.Need-same-length
 same-length c = search needs
 
 returns : tie.Need-returns
-unfolding typeWords
+unfolding typeWordsInTable
 returns c = c .before .before .put-record .ensures
 
 pub put-type-spec : {M : Type 1} → statement M

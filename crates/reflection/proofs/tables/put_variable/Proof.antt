@@ -1,6 +1,6 @@
 -- `put_variable` meets its contract: the array that it fills holds the words of a variable in their order.
 use borrow.Author.Needs.{needs}
-use Rattle.reflection.specs.Records.{variableWords}
+use Rattle.reflection.specs.Records.{variableWordsInTable}
 use Rattle.reflection.proofs.tables.put_variable.Statement.{statement}
 use Rattle.reflection.proofs.tables.put_variable.Tie as tie
 
@@ -14,7 +14,7 @@ same-length : tie.Need-same-length
 same-length c = search needs
 
 returns : tie.Need-returns
-unfolding variableWords
+unfolding variableWordsInTable
 returns c = c .before .before .put-record .ensures
 
 pub put-variable-spec : {M : Type 1} → statement M

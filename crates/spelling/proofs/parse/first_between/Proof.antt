@@ -6,7 +6,7 @@ use native.Mathlib.Nat.{zero-add}
 use native.Mathlib.Omega.{arith}
 use borrow.Author.Needs.{needs}
 use lib.ListN.{length, getD, drop}
-use Rattle.spelling.specs.Grammar.{firstBetween}
+use Rattle.spelling.specs.GrammarParts.{firstBetween}
 use Rattle.spelling.proofs.ParseParts.{between, below, above, first-between-here, first-between-later, first-between-end}
 use Rattle.spelling.proofs.parse.first_between.Statement.{statement}
 use Rattle.spelling.proofs.parse.first_between.Tie as tie

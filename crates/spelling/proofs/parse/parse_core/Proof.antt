@@ -6,7 +6,8 @@ use borrow.Author.Needs.{needs}
 use lib.ListN.{drop}
 use lib.Seq.{length-take-le}
 use Rattle.codes.specs.Variable.{baseTypeRow}
-use Rattle.spelling.specs.Grammar.{shape, spelledType, withShape, baseRead}
+use Rattle.spelling.specs.Grammar.{shape, spelledType}
+use Rattle.spelling.specs.GrammarParts.{withShape, baseRead}
 use Rattle.spelling.proofs.ParseParts.{part-from}
 use Rattle.spelling.proofs.ParseTypes.{core-known-base, core-unknown-base}
 use Rattle.spelling.proofs.parse.parse_core.Statement.{statement}

@@ -5,7 +5,7 @@ use native.Mathlib.Omega.{arith}
 use borrow.Author.Needs.{needs}
 use lib.ListN.{length, getD}
 use Rattle.reflection.specs.Limits.{u16Limit}
-use Rattle.spelling.specs.Grammar.{digitsAsU16, numberRead}
+use Rattle.spelling.specs.GrammarParts.{digitsAsU16, numberRead}
 use Rattle.spelling.proofs.ParseParts.{between, below, above}
 use Rattle.spelling.proofs.ParseNumbers.{numberFrom, number-from-end, number-from-other, number-from-digit, number-from-too-large, digits-empty, digits-from-first}
 use Rattle.spelling.proofs.parse.parse_digits.Statement.{statement}

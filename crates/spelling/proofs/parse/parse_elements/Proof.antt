@@ -5,7 +5,7 @@ use native.Mathlib.Omega.{arith}
 use borrow.Author.Needs.{needs}
 use lib.ListN.{length}
 use lib.Seq.{length-take-le}
-use Rattle.spelling.specs.Grammar.{numberRead}
+use Rattle.spelling.specs.GrammarParts.{numberRead}
 use Rattle.spelling.proofs.ParseTypes.{elements-empty, elements-open, elements-closed}
 use Rattle.spelling.proofs.parse.parse_elements.Statement.{statement}
 use Rattle.spelling.proofs.parse.parse_elements.Tie as tie

@@ -7,7 +7,8 @@ use borrow.Author.Needs.{needs}
 use lib.ListN.{length, drop}
 use lib.Seq.{length-take-le}
 use Rattle.reflection.specs.Nodes.{_>>=_}
-use Rattle.spelling.specs.Grammar.{spelledType, elementsOf, numberRead}
+use Rattle.spelling.specs.Grammar.{spelledType}
+use Rattle.spelling.specs.GrammarParts.{elementsOf, numberRead}
 use Rattle.spelling.proofs.ParseParts.{part-from}
 use Rattle.spelling.proofs.ParseTypes.{is-value, is-nothing, parse-plain, parse-array}
 use Rattle.spelling.proofs.parse.parse_hlsl_type.Statement.{statement}

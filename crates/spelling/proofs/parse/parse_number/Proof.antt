@@ -3,7 +3,7 @@ use mathlib.Core.Path.{sym, ap, _∙_}
 use mathlib.Core.List.{List}
 use Prim.Native.Nat.{ℕ}
 use borrow.Author.Needs.{needs}
-use Rattle.spelling.specs.Grammar.{digitsAsU16, numberRead}
+use Rattle.spelling.specs.GrammarParts.{digitsAsU16, numberRead}
 use Rattle.spelling.proofs.ParseParts.{part-from}
 use Rattle.spelling.proofs.ParseNumbers.{number-empty, number-plus, number-no-plus}
 use Rattle.spelling.proofs.parse.parse_number.Statement.{statement}

@@ -8,7 +8,8 @@ use lib.ListN.{length, take}
 use lib.Seq.{length-take-le}
 use Rattle.spelling.specs.declared.parse.Number.{Number}
 use Rattle.spelling.specs.declared.parse.Number.the-variants.{Value}
-use Rattle.spelling.specs.Grammar.{number, withNumbers, numberRead}
+use Rattle.spelling.specs.Grammar.{number}
+use Rattle.spelling.specs.GrammarParts.{withNumbers, numberRead}
 use Rattle.spelling.proofs.ParseParts.{part-from}
 use Rattle.spelling.proofs.ParseTypes.{spelled-scalar, spelled-vector, spelled-matrix}
 use Rattle.spelling.proofs.parse.parse_shape.Statement.{statement}

@@ -1,6 +1,6 @@
 -- `with_numbers` meets its contract: a type where both numbers were read, else the refusal.
 use borrow.Author.Needs.{needs}
-use Rattle.spelling.specs.Grammar.{withNumbers}
+use Rattle.spelling.specs.GrammarParts.{withNumbers}
 use Rattle.spelling.proofs.parse.with_numbers.Statement.{statement}
 use Rattle.spelling.proofs.parse.with_numbers.Tie as tie
 

@@ -1,7 +1,7 @@
 -- `put_base` meets its contract: the name of the base type that `from_u32` finds, or nothing.
 use mathlib.Core.Path.{sym, ap, _∙_}
 use native.Mathlib.Omega.{arith}
-use Rattle.words.specs.Splice.{put-none}
+use Rattle.words.proofs.Splice.{put-none}
 use Rattle.codes.specs.Variable.{baseTypeAnswer}
 use Rattle.spelling.proofs.WritePieces.{base-known, base-unknown}
 use borrow.Author.Needs.{needs}

@@ -1,6 +1,6 @@
 -- `put_class_dimensions` meets its contract: each arm writes what its class has.
 use native.Mathlib.Omega.{arith}
-use Rattle.words.specs.Splice.{put-none}
+use Rattle.words.proofs.Splice.{put-none}
 use borrow.Author.Needs.{needs}
 use Rattle.spelling.proofs.write.put_class_dimensions.Statement.{statement}
 use Rattle.spelling.proofs.write.put_class_dimensions.Tie as tie

@@ -1,5 +1,5 @@
 -- `put_declaration` meets its contract: four puts in a row.
-use Rattle.words.specs.Splice.{put-then}
+use Rattle.words.proofs.Splice.{put-then}
 use borrow.Author.Needs.{needs}
 use Rattle.spelling.proofs.write.put_declaration.Statement.{statement}
 use Rattle.spelling.proofs.write.put_declaration.Tie as tie

@@ -1,7 +1,7 @@
 -- `put_dimensions` meets its contract: by the class that `from_u32` finds, or nothing.
 use mathlib.Core.Path.{sym, ap, _∙_}
 use native.Mathlib.Omega.{arith}
-use Rattle.words.specs.Splice.{put-none}
+use Rattle.words.proofs.Splice.{put-none}
 use Rattle.codes.specs.Variable.{classAnswer}
 use Rattle.spelling.proofs.WritePieces.{class-known, class-unknown}
 use borrow.Author.Needs.{needs}

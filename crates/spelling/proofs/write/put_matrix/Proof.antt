@@ -1,6 +1,6 @@
 -- `put_matrix` meets its contract: rows, `x`, columns.
 use native.Mathlib.Omega.{arith}
-use Rattle.words.specs.Splice.{put-then}
+use Rattle.words.proofs.Splice.{put-then}
 use borrow.Author.Needs.{needs}
 use Rattle.spelling.proofs.write.put_matrix.Statement.{statement}
 use Rattle.spelling.proofs.write.put_matrix.Tie as tie

@@ -1,7 +1,7 @@
 -- `put_spelling` meets its contract: the own name, or base, dimensions and suffix in a row.
 use mathlib.Core.Path.{sym, _∙_}
 use native.Mathlib.Omega.{arith}
-use Rattle.words.specs.Splice.{put-then}
+use Rattle.words.proofs.Splice.{put-then}
 use Rattle.spelling.proofs.WritePieces.{own-name-bytes, numbers-bytes}
 use borrow.Author.Needs.{needs}
 use Rattle.spelling.proofs.write.put_spelling.Statement.{statement}

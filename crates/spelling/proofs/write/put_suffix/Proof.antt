@@ -1,7 +1,7 @@
 -- `put_suffix` meets its contract: nothing, or three puts in a row.
 use native.Mathlib.Omega.{arith}
 use borrow.Author.Tests.{eq-eqb, ne-eqb}
-use Rattle.words.specs.Splice.{put-none, put-then}
+use Rattle.words.proofs.Splice.{put-none, put-then}
 use Rattle.spelling.specs.Spelling.{arraySuffix}
 use borrow.Author.Needs.{needs}
 use Rattle.spelling.proofs.write.put_suffix.Statement.{statement}

@@ -1,7 +1,7 @@
 -- `count_at` meets its contract: the count is a field of the buffer's record.
 use mathlib.Core.Path.{ap}
 use Rattle.reflection.specs.declared.CBufferDef.{CBufferDef as BufferRecord}
-use Rattle.table_placing.specs.Held.{countAt}
+use Rattle.table_placing.specs.TableReflection.{countAt}
 use borrow.Author.Needs.{needs}
 use Rattle.table_placing.proofs.buffers.count_at.Statement.{statement}
 use Rattle.table_placing.proofs.buffers.count_at.Tie as tie

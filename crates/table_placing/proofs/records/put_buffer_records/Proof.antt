@@ -3,7 +3,8 @@ use mathlib.Core.Path.{_≡_, sym, subst}
 use Prim.Native.Nat.{_-_, _≤_}
 use native.Mathlib.Nat.{zero-add}
 use native.Mathlib.Omega.{arith}
-use Rattle.words.specs.Splice.{Put, put-length}
+use Rattle.words.specs.Splice.{Put}
+use Rattle.words.proofs.Splice.{put-length}
 use Rattle.placing.specs.Bytes.{joinedBytes}
 use Rattle.table_placing.specs.Offsets.{rowsFrom, bufferRow}
 use Rattle.table_placing.proofs.Rows.{rows-put-none, rows-put-more, buffer-rows-near}

@@ -1,6 +1,6 @@
--- `binding_record` meets its contract: each field is the word that `bindingFrom` reads there.
+-- `binding_record` meets its contract: each field is the word that `bindingFromChunk` reads there.
 use Rattle.reflection.specs.Tables.{bindingRecord}
-use Rattle.reading.specs.Read.{bindingFrom}
+use Rattle.reading.specs.Read.{bindingFromChunk}
 use borrow.Author.Needs.{needs}
 use Rattle.table_walk.proofs.bindings.binding_record.Statement.{statement}
 use Rattle.table_walk.proofs.bindings.binding_record.Tie as tie
@@ -60,7 +60,7 @@ word-if-requires-2 : tie.Need-word-if-requires-2
 word-if-requires-2 c κs = search needs
 
 returns : tie.Need-returns
-unfolding bindingRecord bindingFrom
+unfolding bindingRecord bindingFromChunk
 returns c = cc
 
 pub binding-record-spec : {M : Type 1} → statement M

@@ -1,5 +1,5 @@
--- `buffer_record` meets its contract: each field is the word that `bufferRow` names.
-use Rattle.table_walk.specs.Buffers.{bufferRow}
+-- `buffer_record` meets its contract: each field is the word that `bufferRecordInChunk` names.
+use Rattle.table_walk.specs.Buffers.{bufferRecordInChunk}
 use borrow.Author.Needs.{needs}
 use Rattle.table_walk.proofs.buffers.buffer_record.Statement.{statement}
 use Rattle.table_walk.proofs.buffers.buffer_record.Tie as tie
@@ -29,7 +29,7 @@ word-at-requires-4 : tie.Need-word-at-requires-4
 word-at-requires-4 c κs = search needs
 
 returns : tie.Need-returns
-unfolding bufferRow
+unfolding bufferRecordInChunk
 returns c = cc
 
 pub buffer-record-spec : {M : Type 1} → statement M

@@ -4,7 +4,7 @@ use borrow.Author.Tests.{not-true, not-false}
 use mathlib.Core.Path.{sym, subst, _∙_}
 use native.Mathlib.Omega.{arith}
 use lib.ListN.{length}
-use Rattle.text.specs.Strings.{Within}
+use Rattle.text.specs.Strings.{FoundWithin}
 use Rattle.reflection.specs.Strides.{bufferStride}
 use Rattle.table_walk.proofs.Range.{record-ends}
 use Rattle.table_walk.proofs.BuffersLoop.{BuffersLeft, all-left, variables-ready, ends, ends-full, ends-short, ends-named-badly, ends-below, goes-on}
@@ -177,13 +177,13 @@ cast-in-chunk : tie.Need-cast-in-chunk Inv-loop μ-loop
 cast-in-chunk c =
     let at-found = c .before in let at-cstring-at = at-found .before .before in
     let start = at-cstring-at .before .before .before .before .before .before .before .before .before .before .before .before .before .before .before .before .before .before .before .before .before .before .before .before .before .before .before in
-    omega (arith, subst (Within (length (start .args .s .now))) (at-found .found .given .1) (at-cstring-at .cstring-at .ensures .1), start .pre .chunk)
+    omega (arith, subst (FoundWithin (length (start .args .s .now))) (at-found .found .given .1) (at-cstring-at .cstring-at .ensures .1), start .pre .chunk)
 
 cast-in-chunk-2 : tie.Need-cast-in-chunk-2 Inv-loop μ-loop
 cast-in-chunk-2 c =
     let at-found = c .before in let at-cstring-at = at-found .before .before in
     let start = at-cstring-at .before .before .before .before .before .before .before .before .before .before .before .before .before .before .before .before .before .before .before .before .before .before .before .before .before .before .before in
-    omega (arith, subst (Within (length (start .args .s .now))) (at-found .found .given .1) (at-cstring-at .cstring-at .ensures .1), start .pre .chunk)
+    omega (arith, subst (FoundWithin (length (start .args .s .now))) (at-found .found .given .1) (at-cstring-at .cstring-at .ensures .1), start .pre .chunk)
 
 in-chunk-requires : tie.Need-in-chunk-requires Inv-loop μ-loop
 in-chunk-requires c κs = search needs

@@ -1,5 +1,5 @@
--- `variable_record` meets its contract: each field is the word that `variableRow` names.
-use Rattle.table_walk.specs.Variables.{variableRow}
+-- `variable_record` meets its contract: each field is the word that `variableRecordInChunk` names.
+use Rattle.table_walk.specs.Variables.{variableRecordInChunk}
 use borrow.Author.Needs.{needs}
 use Rattle.table_walk.proofs.variables.variable_record.Statement.{statement}
 use Rattle.table_walk.proofs.variables.variable_record.Tie as tie
@@ -47,7 +47,7 @@ word-if-requires-4 : tie.Need-word-if-requires-4
 word-if-requires-4 c κs = search needs
 
 returns : tie.Need-returns
-unfolding variableRow
+unfolding variableRecordInChunk
 returns c = cc
 
 pub variable-record-spec : {M : Type 1} → statement M

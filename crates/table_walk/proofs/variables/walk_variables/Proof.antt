@@ -4,7 +4,7 @@ use borrow.Author.Tests.{not-true, not-false}
 use mathlib.Core.Path.{sym, subst, _∙_}
 use native.Mathlib.Omega.{arith}
 use lib.ListN.{length}
-use Rattle.text.specs.Strings.{Within}
+use Rattle.text.specs.Strings.{FoundWithin}
 use Rattle.type_walk.specs.Walk.{turnedOnto}
 use Rattle.table_walk.proofs.Range.{record-ends}
 use Rattle.table_walk.proofs.VariablesLoop.{VariablesLeft, all-left, type-ready, ends, ends-full, ends-short, ends-default-outside, ends-named-badly, ends-below, goes-on}
@@ -132,13 +132,13 @@ cast-in-chunk : tie.Need-cast-in-chunk Inv-loop μ-loop
 cast-in-chunk c =
     let at-found = c .before in let at-cstring-at = at-found .before .before in
     let start = at-cstring-at .before .before .before .before .before .before .before .before .before .before .before .before .before .before .before .before .before in
-    omega (arith, subst (Within (length (start .args .s .now))) (at-found .found .given .1) (at-cstring-at .cstring-at .ensures .1), start .pre .chunk)
+    omega (arith, subst (FoundWithin (length (start .args .s .now))) (at-found .found .given .1) (at-cstring-at .cstring-at .ensures .1), start .pre .chunk)
 
 cast-in-chunk-2 : tie.Need-cast-in-chunk-2 Inv-loop μ-loop
 cast-in-chunk-2 c =
     let at-found = c .before in let at-cstring-at = at-found .before .before in
     let start = at-cstring-at .before .before .before .before .before .before .before .before .before .before .before .before .before .before .before .before .before in
-    omega (arith, subst (Within (length (start .args .s .now))) (at-found .found .given .1) (at-cstring-at .cstring-at .ensures .1), start .pre .chunk)
+    omega (arith, subst (FoundWithin (length (start .args .s .now))) (at-found .found .given .1) (at-cstring-at .cstring-at .ensures .1), start .pre .chunk)
 
 in-chunk-requires-2 : tie.Need-in-chunk-requires-2 Inv-loop μ-loop
 in-chunk-requires-2 c κs = search needs
@@ -147,13 +147,13 @@ cast-in-chunk-3 : tie.Need-cast-in-chunk-3 Inv-loop μ-loop
 cast-in-chunk-3 c =
     let at-default = c .before .before .before .before .before .before .before in let at-default-of = at-default .before .before in
     let start = at-default-of .before .before .before .before .before .before .before .before .before .before .before .before in
-    omega (arith, subst (Within (length (start .args .s .now))) (at-default .default .given .1) (at-default-of .default-of .ensures .1), start .pre .chunk)
+    omega (arith, subst (FoundWithin (length (start .args .s .now))) (at-default .default .given .1) (at-default-of .default-of .ensures .1), start .pre .chunk)
 
 cast-in-chunk-4 : tie.Need-cast-in-chunk-4 Inv-loop μ-loop
 cast-in-chunk-4 c =
     let at-default = c .before .before .before .before .before .before .before in let at-default-of = at-default .before .before in
     let start = at-default-of .before .before .before .before .before .before .before .before .before .before .before .before in
-    omega (arith, subst (Within (length (start .args .s .now))) (at-default .default .given .1) (at-default-of .default-of .ensures .1), start .pre .chunk)
+    omega (arith, subst (FoundWithin (length (start .args .s .now))) (at-default .default .given .1) (at-default-of .default-of .ensures .1), start .pre .chunk)
 
 in-chunk-requires-3 : tie.Need-in-chunk-requires-3 Inv-loop μ-loop
 in-chunk-requires-3 c κs = search needs

@@ -3,7 +3,7 @@ use borrow.Author.Needs.{needs}
 use native.Mathlib.Omega.{arith}
 use Prim.Native.Nat.{_/_}
 use lib.ListN.{length}
-use Rattle.reflection.specs.Decode.{nodeFrom}
+use Rattle.reflection.specs.Decode.{nodeFromTable}
 use Rattle.placing.specs.Scratch.{memberWidth}
 use Rattle.type_placing.proofs.Putting.{padding-near, type-put}
 use Rattle.type_placing.proofs.put.put_type.Statement.{statement}
@@ -38,7 +38,7 @@ returns c =
     let put-padding-call = c .before .before .before .before .before .before .put-padding in
     let put-records-call = c .before .before .before .before .before .before .before .before .before .before .put-records in
     let args = c .before .before .before .before .before .before .before .before .before .before .before .before .before .before .args in
-    type-put (args .sm5) (nodeFrom (args .node) .numbers) (args .name) (length (args .records .now) / memberWidth) (args .records .now) (λ count e. omega (arith, e))
+    type-put (args .sm5) (nodeFromTable (args .node) .numbers) (args .name) (length (args .records .now) / memberWidth) (args .records .now) (λ count e. omega (arith, e))
     (put-records-call .ensures) (put-padding-call .ensures) (put-descriptor-call .ensures)
 
 pub put-type-spec : {M : Type 1} → statement M

@@ -4,7 +4,7 @@ use Prim.Native.Nat.{ℕ, _+_, _≤_}
 use native.Mathlib.Omega.{arith}
 use lib.ListN.{length}
 use Rattle.words.proofs.Parts.{inside-fits}
-use Rattle.text.specs.Strings.{cstringAt, Within}
+use Rattle.text.specs.Strings.{cstringAt, FoundWithin}
 use Rattle.reflection.specs.Strides.{memberStride}
 use Rattle.type_walk.proofs.walk_members.Reads as own
 use Rattle.type_walk.proofs.+walk_members+walk_type.Lts-walk_members as lts
@@ -50,7 +50,7 @@ module _ (t : ℕ) where
     this-turn = turn record-inside
 
     name-fits : c .before .found .given .0 .0 + c .before .found .given .0 .1 .0 ≤ length (entry .args .s .now)
-    name-fits = subst (Within (length (entry .args .s .now))) (c .before .found .given .1) (c .before .before .before .cstring-at .ensures .1)
+    name-fits = subst (FoundWithin (length (entry .args .s .now))) (c .before .found .given .1) (c .before .before .before .cstring-at .ensures .1)
 
     member-at : MemberAt (entry .args .s .now) (this-turn .loop .at) (this-turn .loop .left) (c .before .found .given .0 .0) (c .before .found .given .0 .1 .0)
         (c .before .before .before .before .before .word-at2 .result) (c .before .before .before .before .word-at3 .result)

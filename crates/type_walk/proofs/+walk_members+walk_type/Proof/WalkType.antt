@@ -6,7 +6,7 @@ use lib.ListN.{length, set, length-set}
 use Rattle.words.specs.Parts.{inside}
 use Rattle.reflection.specs.Limits.{typeLevels}
 use Rattle.reflection.specs.declared.TypeDesc.{TypeDesc}
-use Rattle.reflection.specs.Records.{putRecord, typeWidth, typeWords}
+use Rattle.reflection.specs.Records.{putRecord, typeWidth, typeWordsInTable}
 use Rattle.reading.specs.Read.{typeNameAt}
 use Rattle.type_walk.specs.Walk.{foundText}
 use Rattle.type_walk.proofs.walk_type.Reads as own
@@ -105,7 +105,7 @@ module _ (t : ℕ) where
           ∙ in-range .if4 .taken;
       put =
           put .put-type .ensures
-          ∙ ap (λ (x : TypeDesc). putRecord typeWidth (start .args .types .now) (start .args .n) (typeWords x)) (put .before .before .type-node .ensures);
+          ∙ ap (λ (x : TypeDesc). putRecord typeWidth (start .args .types .now) (start .args .n) (typeWordsInTable x)) (put .before .before .type-node .ensures);
       is-count = c .before .high-at .ensures;
       is-first = c .word-at .ensures;
     }

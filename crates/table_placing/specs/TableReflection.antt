@@ -1,3 +1,4 @@
+-- Vocabulary of internal contracts: no contract of an exported function and no demand cites it.
 -- The reflection that a header and its tables hold, read off them record by record; total, with no test of the counts. Where decoding gives a reflection it is
 -- this one (proofs/Decoded.antt), so the code that walks the tables needs no premise on them beyond their sizes.
 use mathlib.Core.List.{List, map}
@@ -7,7 +8,7 @@ use Rattle.reflection.specs.declared.ResourceDef.{ResourceDef as Header}
 use Rattle.reflection.specs.Reflection.{CBufferVariable, CBufferDef, ResourceDef}
 use Rattle.reflection.specs.Nodes.{typeLevels}
 use Rattle.reflection.specs.Records.{bindingAt, bufferAt, variableAt}
-use Rattle.reflection.specs.Decode.{recordsFrom, bindingFrom, variableFrom, bufferFrom, rd11From}
+use Rattle.reflection.specs.Decode.{recordsFrom, bindingFromTable, variableFromTable, bufferFromTable, rd11FromHeader}
 use Rattle.reflection.specs.Limits.{bindingRoom, bufferRoom, variableRoom, typeRoom}
 use Rattle.type_equality.specs.Trees.{treeAt, typeTree}
 
@@ -17,8 +18,8 @@ rootAt types zero = 0
 rootAt types (suc j) = treeAt types typeLevels (rootAt types j) .next
 
 -- Variable j, with its type.
-unfoldable pub variableHeld : List ℕ → List ℕ → ℕ → CBufferVariable Text Text
-variableHeld variables types j = variableFrom (variableAt variables j) (typeTree types typeLevels (rootAt types j))
+unfoldable pub variableInTable : List ℕ → List ℕ → ℕ → CBufferVariable Text Text
+variableInTable variables types j = variableFromTable (variableAt variables j) (typeTree types typeLevels (rootAt types j))
 
 -- How many variables buffer i counts, and how many the buffers before it count.
 unfoldable pub countAt : List ℕ → ℕ → ℕ
@@ -29,17 +30,17 @@ firstVariable buffers zero = 0
 firstVariable buffers (suc i) = firstVariable buffers i + countAt buffers i
 
 -- Buffer i, with its variables.
-unfoldable pub bufferHeld : List ℕ → List ℕ → List ℕ → ℕ → CBufferDef Text Text
-bufferHeld buffers variables types i = bufferFrom (bufferAt buffers i) (recordsFrom (variableHeld variables types) (firstVariable buffers i) (countAt buffers i))
+unfoldable pub bufferInTable : List ℕ → List ℕ → List ℕ → ℕ → CBufferDef Text Text
+bufferInTable buffers variables types i = bufferFromTable (bufferAt buffers i) (recordsFrom (variableInTable variables types) (firstVariable buffers i) (countAt buffers i))
 
-unfoldable pub reflectionHeld : Header → List ℕ → List ℕ → List ℕ → List ℕ → ResourceDef Text Text
-reflectionHeld h bindings buffers variables types = record {
+unfoldable pub reflectionInTables : Header → List ℕ → List ℕ → List ℕ → List ℕ → ResourceDef Text Text
+reflectionInTables h bindings buffers variables types = record {
   target-version = h .«target_version»;
   compile-flags = h .«compile_flags»;
-  rd11 = rd11From h;
+  rd11 = rd11FromHeader h;
   creator = h .creator;
-  bindings = map bindingFrom (recordsFrom (bindingAt bindings) 0 (h .«binding_count»));
-  constant-buffers = recordsFrom (bufferHeld buffers variables types) 0 (h .«buffer_count»);
+  bindings = map bindingFromTable (recordsFrom (bindingAt bindings) 0 (h .«binding_count»));
+  constant-buffers = recordsFrom (bufferInTable buffers variables types) 0 (h .«buffer_count»);
 }
 
 -- The records are no more than document 01's room.
