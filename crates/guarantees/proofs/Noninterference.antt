@@ -9,6 +9,7 @@ use native.Mathlib.Omega.{arith}
 use lib.Dec.{leb}
 use lib.ListN.{length, getD, take, drop, replicate}
 use lib.Seq.{getD-take}
+use Rattle.reflection.specs.Refusals.{notReadable, noRoom}
 use Rattle.words.specs.Splice.{splice}
 use Rattle.words.proofs.Splice.{length-splice}
 use Rattle.reflection.specs.declared.Text.{Text}
@@ -101,10 +102,10 @@ module _ (l : Lent) (after : Left) (answer : WrittenAndRead) (calls : WroteAndRe
       }
 
 -- Where the tables hold nothing, the refusal hangs on the scratch alone.
-nothing-refused : (enough : Bool) (room : ℕ) → (e : Refusal) × (cond enough (fitting room (canonicalOr16 none)) (refused (because 15)) ≡ refused e)
+nothing-refused : (enough : Bool) (room : ℕ) → (e : Refusal) × (cond enough (fitting room (canonicalOr16 none)) (refused (because noRoom)) ≡ refused e)
 unfolding canonicalOr16 fitting
-nothing-refused true room = (because 16, refl)
-nothing-refused false room = (because 15, refl)
+nothing-refused true room = (because notReadable, refl)
+nothing-refused false room = (because noRoom, refl)
 
 -- A byte of the written part is the form's.
 byte-of-form : (out bytes : Bytes) (p : ℕ) → p < length bytes → take (length bytes) out ≡ bytes → getD out p 0 ≡ getD bytes p 0

@@ -11,12 +11,13 @@ use borrow.Author.Tests.{le-leb, lt-leb}
 use lib.Dec.{leb}
 use lib.ListN.{length, getD, take, drop, replicate, length-replicate}
 use lib.Seq.{getD-take}
+use Rattle.reflection.specs.Refusals.{outputTooSmall}
 use Rattle.words.specs.Parts.{inside, part}
 use Rattle.words.specs.Splice.{splice}
 use Rattle.reflection.specs.declared.Text.{Text}
 use Rattle.reflection.specs.declared.Refusal.{Refusal}
 use Rattle.reflection.specs.declared.ResourceDef.{ResourceDef as Header}
-use Rattle.reflection.specs.Limits.{bindingTable, bufferTable, variableTable, typeTable}
+use Rattle.reflection.specs.Limits.{bindingTable, bufferTable, variableTable, typeTable, chunkLimit}
 use Rattle.reflection.specs.Outcome.{Outcome, ok, refused, because}
 use Rattle.reflection.specs.Reflection.{ResourceDef}
 use Rattle.reflection.specs.Tables.{table, padded, bindingRows, bufferRows, variableRows, typeRows, headerOf}
@@ -170,14 +171,14 @@ rescratched l after first calls scratch is = record {
 }
 
 -- What fits, and what does not.
-module _ (room : ℕ) (bytes : Bytes) (short : length bytes ≤ 65536) where
+module _ (room : ℕ) (bytes : Bytes) (short : length bytes ≤ chunkLimit) where
   fits : length bytes ≤ room → fitting room (ok bytes) ≡ ok bytes
   unfolding fitting
-  fits enough = rw (le-leb (length bytes) (min room 65536) (omega arith))
+  fits enough = rw (le-leb (length bytes) (min room chunkLimit) (omega arith))
 
-  too-long : room < length bytes → fitting room (ok bytes) ≡ refused (because 17)
+  too-long : room < length bytes → fitting room (ok bytes) ≡ refused (because outputTooSmall)
   unfolding fitting
-  too-long less = rw (lt-leb (length bytes) (min room 65536) (omega arith))
+  too-long less = rw (lt-leb (length bytes) (min room chunkLimit) (omega arith))
 
 module _
     (l : Lent)
@@ -202,7 +203,7 @@ module _
 
   module _ (r : ResourceDef Bytes Bytes) (is-held : reflectionIn l ≡ some r) (is : form l ≡ ok (canonical r))
       (wrote : WrittenForm (length (l .scratch)) (length (l .out)) (reflectionIn l) (canonical r)) (readable : readableContents r ≡ true) where
-    short : length (canonical r) ≤ 65536
+    short : length (canonical r) ≤ chunkLimit
     short = omega (arith, wrote .fits)
 
     back : FormRestored r

@@ -10,6 +10,8 @@ use borrow.Author.Tests.{leb-true, le-leb}
 use lib.Dec.{leb}
 use lib.ListN.{length, take, drop}
 use lib.Seq.{take-append-seam, drop-append-seam}
+use Rattle.reflection.specs.Refusals.{outputTooSmall, notReadable, noRoom}
+use Rattle.reflection.specs.Limits.{chunkLimit}
 use Rattle.words.specs.Parts.{inside, part}
 use Rattle.words.specs.Splice.{splice}
 use Rattle.words.proofs.Splice.{length-splice, splice-eq}
@@ -26,15 +28,15 @@ pub record WrittenForm (scratch room : ℕ) (o : Option (ResourceDef Bytes Bytes
   pub is-held : o ≡ some reflection
   pub is-readable : readableContents reflection ≡ true
   pub is-form : canonical reflection ≡ bytes
-  pub fits : length bytes ≤ min room 65536
+  pub fits : length bytes ≤ min room chunkLimit
   pub enough : scratchSize ≤ scratch
 
 pub written-form : (scratch room : ℕ) (o : Option (ResourceDef Bytes Bytes)) (bytes : Bytes) → write scratch room o ≡ ok bytes → WrittenForm scratch room o bytes
 unfolding write canonicalOr16 fitting
 written-form scratch room o bytes e = by-scratch (leb scratchSize scratch) refl o refl e
   where
-    by-fit : (r : ResourceDef Bytes Bytes) (fits : Bool) → leb (length (canonical r)) (min room 65536) ≡ fits → scratchSize ≤ scratch → o ≡ some r → readableContents r ≡ true
-        → cond fits (ok (canonical r)) (refused (because 17)) ≡ ok bytes → WrittenForm scratch room o bytes
+    by-fit : (r : ResourceDef Bytes Bytes) (fits : Bool) → leb (length (canonical r)) (min room chunkLimit) ≡ fits → scratchSize ≤ scratch → o ≡ some r → readableContents r ≡ true
+        → cond fits (ok (canonical r)) (refused (because outputTooSmall)) ≡ ok bytes → WrittenForm scratch room o bytes
     by-fit r true is enough held passes q =
         let same : canonical r ≡ bytes = cc in
         record {
@@ -42,14 +44,14 @@ written-form scratch room o bytes e = by-scratch (leb scratchSize scratch) refl 
           is-held = held;
           is-readable = passes;
           is-form = same;
-          fits = omega (arith, leb-true (length (canonical r)) (min room 65536) is, ap length same);
+          fits = omega (arith, leb-true (length (canonical r)) (min room chunkLimit) is, ap length same);
           enough = enough;
         }
     by-fit r false is enough held passes q = absurd (let apart : _≡_ {A = ℕ} 0 1 = cc in omega arith)
 
     by-readable : (r : ResourceDef Bytes Bytes) (passes : Bool) → readableContents r ≡ passes → scratchSize ≤ scratch → o ≡ some r
-        → fitting room (cond passes (ok (canonical r)) (refused (because 16))) ≡ ok bytes → WrittenForm scratch room o bytes
-    by-readable r true is enough held q = by-fit r (leb (length (canonical r)) (min room 65536)) refl enough held is q
+        → fitting room (cond passes (ok (canonical r)) (refused (because notReadable))) ≡ ok bytes → WrittenForm scratch room o bytes
+    by-readable r true is enough held q = by-fit r (leb (length (canonical r)) (min room chunkLimit)) refl enough held is q
     by-readable r false is enough held q = absurd (let apart : _≡_ {A = ℕ} 0 1 = cc in omega arith)
 
     by-held : (h : Option (ResourceDef Bytes Bytes)) → o ≡ h → scratchSize ≤ scratch → fitting room (canonicalOr16 h) ≡ ok bytes → WrittenForm scratch room o bytes
@@ -57,7 +59,7 @@ written-form scratch room o bytes e = by-scratch (leb scratchSize scratch) refl 
     by-held (some r) held enough q = by-readable r (readableContents r) refl enough held q
 
     by-scratch : (test : Bool) → leb scratchSize scratch ≡ test → (h : Option (ResourceDef Bytes Bytes)) → o ≡ h
-        → cond test (fitting room (canonicalOr16 h)) (refused (because 15)) ≡ ok bytes → WrittenForm scratch room o bytes
+        → cond test (fitting room (canonicalOr16 h)) (refused (because noRoom)) ≡ ok bytes → WrittenForm scratch room o bytes
     by-scratch true is h held q = by-held h held (leb-true scratchSize scratch is) q
     by-scratch false is h held q = absurd (let apart : _≡_ {A = ℕ} 0 1 = cc in omega arith)
 

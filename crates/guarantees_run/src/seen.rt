@@ -26,7 +26,7 @@ pub fn bool_line(out: &mut [u8; 8192], used: &mut usize, name: &[u8], yes: bool)
 
 // A length as a word; outputs are short.
 fn word(n: usize) -> u32 {
-    if n < 65536 { n as u32 } else { 65536 }
+    words::least(n, reflection::CHUNK_LIMIT) as u32
 }
 
 // How many bytes were written.

@@ -1,6 +1,7 @@
 -- `write_and_read` meets its contract: a refusal of the writer, and cleared tables; or n bytes at the start of the output, which were read.
 use mathlib.Core.Path.{_≡_}
 use lib.ListN.{length}
+use Rattle.reflection.specs.Limits.{bindingTable, bufferTable, variableTable, typeTable}
 use Rattle.guarantees.proofs.Called.{called-refused, called-written}
 use borrow.Author.Needs.{needs}
 use Rattle.guarantees.proofs.write_and_read.Statement.{statement}
@@ -42,10 +43,10 @@ same-length-2 c = search needs
 returns : tie.Need-returns
 returns c =
     let a = c .before .before .before .before .before .before .before .before .before .before .before .before .before .before .before .before .before .before .before .before .before .before .before .before .before .before .args in
-    let nb : length (a .found-bindings .now) ≡ 12288 = search needs in
-    let nf : length (a .found-buffers .now) ≡ 448 = search needs in
-    let nv : length (a .found-variables .now) ≡ 26624 = search needs in
-    let nt : length (a .found-types .now) ≡ 69632 = search needs in
+    let nb : length (a .found-bindings .now) ≡ bindingTable = search needs in
+    let nf : length (a .found-buffers .now) ≡ bufferTable = search needs in
+    let nv : length (a .found-variables .now) ≡ variableTable = search needs in
+    let nt : length (a .found-types .now) ≡ typeTable = search needs in
     let wrote = c .before .before .before .before .before .before .before .before .before .before .before .before .before .before .before .write-rdef-canonical .ensures in
     called-refused _ _ _ (wrote .0) (wrote .1 .0) (wrote .1 .1) (a .found-bindings .now) (a .found-buffers .now) (a .found-variables .now) (a .found-types .now) nb nf nv nt (c .before .before .before .before .before .before .before .before .before .written .given .0 .0) (c .before .before .before .before .before .before .before .before .before .written .given .1)
     (c .before .before .before .before .before .before .clear .ensures) (c .before .before .before .before .clear2 .ensures) (c .before .before .clear3 .ensures) (c .clear4 .ensures)
@@ -59,10 +60,10 @@ same-length-4 c = search needs
 returns-2 : tie.Need-returns-2
 returns-2 c =
     let a = c .before .before .before .before .before .before .before .before .before .before .before .before .before .before .before .before .before .before .before .before .before .before .before .before .before .args in
-    let nb : length (a .found-bindings .now) ≡ 12288 = search needs in
-    let nf : length (a .found-buffers .now) ≡ 448 = search needs in
-    let nv : length (a .found-variables .now) ≡ 26624 = search needs in
-    let nt : length (a .found-types .now) ≡ 69632 = search needs in
+    let nb : length (a .found-bindings .now) ≡ bindingTable = search needs in
+    let nf : length (a .found-buffers .now) ≡ bufferTable = search needs in
+    let nv : length (a .found-variables .now) ≡ variableTable = search needs in
+    let nt : length (a .found-types .now) ≡ typeTable = search needs in
     let wrote = c .before .before .before .before .before .before .before .before .before .before .before .before .before .before .write-rdef-canonical .ensures in
     let read = c .parse-rdef .ensures in
     called-written _ _ _ (wrote .0) (wrote .1 .0) (wrote .1 .1) (a .found-bindings .now) (a .found-buffers .now) (a .found-variables .now) (a .found-types .now) nb nf nv nt (c .before .before .before .before .before .before .before .before .written2 .given .0 .0) (c .before .before .before .before .before .before .before .before .written2 .given .1) _ _ (c .before .before .before .before .before .part .ensures) (read .0) (read .1 .0)
