@@ -2,16 +2,16 @@
 use mathlib.Core.Path.{_≡_, subst}
 use Rattle.reflection.specs.declared.ResourceDef.{ResourceDef as Header}
 use Rattle.guarantees.specs.declared.WrittenPair.{WrittenPair}
-use Rattle.guarantees.specs.Calls.{Left, form, answerOf}
-use Rattle.guarantees.specs.Noninterference.{Shared, Alike, SameAnswers, both-refused as answers-refused, both-written as answers-written}
+use Rattle.guarantees.specs.Calls.{Left, form, writtenAndRead}
+use Rattle.guarantees.specs.Noninterference.{Shared, SidesAlike, SameAnswers, both-refused as answers-refused, both-written as answers-written}
 use Rattle.guarantees.proofs.Noninterference.{noninterference}
-use Rattle.export_guarantees.specs.Calls.{Side, lentBy, leftBy}
+use Rattle.export_guarantees.specs.Calls.{Side, lentBy, leftAfter}
 use Rattle.export_guarantees.specs.Noninterference.{SameNumbers, both-refused, both-written}
 use Rattle.export_guarantees.proofs.Sides.{readLeft, side-calls, side-words, refused-export, ReadSide, read-side}
 
 module _ (a b : Side) where
   abbrev answers : WrittenPair
-  answers = record { a = answerOf (form (lentBy a)); b = answerOf (form (lentBy b)) }
+  answers = record { a = writtenAndRead (form (lentBy a)); b = writtenAndRead (form (lentBy b)) }
 
   pub exports-noninterference : Shared (lentBy a) (lentBy b) → SameNumbers a b
   exports-noninterference shared = go (noninterference (lentBy a) (lentBy b) (readLeft a) (readLeft b) answers (side-words a) (side-calls a) (side-calls b) shared)
@@ -22,5 +22,5 @@ module _ (a b : Side) where
           let side-a = read-side a n found-a in-a .1 in
           let side-b = read-side b n found-b in-b .1 in
           both-written n found-a found-b (side-a .is) (side-b .is)
-          (subst (λ (p : Left × Left). Alike (lentBy a) (lentBy b) (p .0) (p .1) n (found-a .«variable_count») (found-b .«variable_count»))
+          (subst (λ (p : Left × Left). SidesAlike (lentBy a) (lentBy b) (p .0) (p .1) n (found-a .«variable_count») (found-b .«variable_count»))
           (λ i. (side-a .same-left i, side-b .same-left i)) alike)

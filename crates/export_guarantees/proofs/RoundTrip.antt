@@ -15,15 +15,15 @@ use Rattle.writing.specs.Outcome.{write}
 use Rattle.nontrefalcu.specs.Exports.{headerWordsInTable, headerAt}
 use Rattle.nontrefalcu.specs.Writing.{canonicalInto}
 use Rattle.guarantees.specs.declared.WrittenTwice.{WrittenTwice}
-use Rattle.guarantees.specs.Calls.{Left, reflectionIn, form, answerOf}
+use Rattle.guarantees.specs.Calls.{Left, reflectionIn, form, writtenAndRead}
 use Rattle.guarantees.specs.Noninterference.{RefusedSide}
-use Rattle.guarantees.specs.RoundTrip.{again, Restored, refused-first, restored as first-restored}
+use Rattle.guarantees.specs.RoundTrip.{again, FieldsRestored, refused-first, restored as first-restored}
 use Rattle.guarantees.proofs.Written.{written-form, written-start}
 use Rattle.guarantees.proofs.Noninterference.{written-bytes}
 use Rattle.guarantees.proofs.RoundTrip.{round-trip-demand}
-use Rattle.export_guarantees.specs.Calls.{WordsLent, WordsLeft, WriteCall, Side, lentBy, leftBy}
+use Rattle.export_guarantees.specs.Calls.{WordsLent, WordsLeft, WriteCall, Side, lentBy, leftAfter}
 use Rattle.export_guarantees.specs.Noninterference.{RefusedExport}
-use Rattle.export_guarantees.specs.RoundTrip.{LentAgain, SameAgain, RestoredExport, RoundTripOf, refused, restored}
+use Rattle.export_guarantees.specs.RoundTrip.{LentAgain, SameBytesAgain, RestoredExport, RoundTripOf, refused, restored}
 use Rattle.export_guarantees.proofs.Sides.{readLeft, side-calls, side-words, number-written, length-written, refused-export, ReadSide, read-side}
 
 header-back : (h : Header) → headerAt (headerWordsInTable h) ≡ h
@@ -36,7 +36,7 @@ module _ (s : Side) where
   twice = again (size (s .given .scratch)) (size (s .given .out)) (form (lentBy s))
 
   abbrev answers : WrittenTwice
-  answers = record { first = answerOf (form (lentBy s)); again = writtenOf (again (size (s .given .scratch)) (size (s .given .out)) (form (lentBy s))) }
+  answers = record { first = writtenAndRead (form (lentBy s)); again = writtenOf (again (size (s .given .scratch)) (size (s .given .out)) (form (lentBy s))) }
 
   module _ (n : ℕ) (found : Header) (bytes : Bytes) (side : ReadSide s n found bytes)
       (all : tableContents (take n (s .wrote .out)) [] found (readLeft s .found-bindings) (readLeft s .found-buffers) (readLeft s .found-variables) (readLeft s .found-types) ≡ reflectionIn (lentBy s)) where
@@ -48,7 +48,7 @@ module _ (s : Side) where
         (sym (side .same-left) i .found-variables) (sym (side .same-left) i .found-types))
         ∙ all
 
-    second : (l : WordsLent) (after : WordsLeft) → WriteCall l after → LentAgain s n l → SameAgain s n after
+    second : (l : WordsLent) (after : WordsLeft) → WriteCall l after → LentAgain s n l → SameBytesAgain s n after
     unfolding canonicalInto outputOf
     second l after writing lent =
         let same-held : tableContents (l .chunk) (l .edits) (headerAt (l .header)) (l .bindings) (l .buffers) (l .variables) (l .types) ≡ reflectionIn (lentBy s) =
@@ -57,7 +57,7 @@ module _ (s : Side) where
         (λ i. write (lent .scratch i) (lent .out i) (same-held i)) ∙ side .formed in
         let fits = written-form (size (s .given .scratch)) (size (s .given .out)) (reflectionIn (lentBy s)) bytes (side .formed) .fits in
         let out : after .out ≡ splice (l .out) 0 bytes = writing .out ∙ ap (λ (o : Outcome Bytes). outputOf o (l .out)) formed in
-        let first : take (size bytes) (s .wrote .out) ≡ bytes = written-bytes (lentBy s) (readLeft s) (answerOf (form (lentBy s))) (side-calls s) bytes (side .formed) in
+        let first : take (size bytes) (s .wrote .out) ≡ bytes = written-bytes (lentBy s) (readLeft s) (writtenAndRead (form (lentBy s))) (side-calls s) bytes (side .formed) in
         record {
           answer = number-written l after writing bytes formed;
           length-is = length-written l after writing bytes formed (lent .length) ∙ ap (λ (k : ℕ). k ∷ []) (side .long);
@@ -82,7 +82,7 @@ module _ (s : Side) where
       go
       (round-trip-demand (lentBy s) (readLeft s) (s .given .out) (outputOf twice (s .given .out)) answers (side-words s) (s .bytes) (side-calls s) refl refl)
     where
-      go : Restored (lentBy s) (readLeft s) (s .given .out) (outputOf twice (s .given .out)) answers → RoundTripOf s
+      go : FieldsRestored (lentBy s) (readLeft s) (s .given .out) (outputOf twice (s .given .out)) answers → RoundTripOf s
       go (refused-first e is again-is out-zero second-zero) = refused e (refused-export s e is (record { out-zero = out-zero; scratch-zero = s .writing .scratch }))
       go (first-restored n found is all same) =
           let (bytes, side) = read-side s n found is in

@@ -21,10 +21,10 @@ use Rattle.round_trip.specs.RoundTrip.{EachIsWord}
 use Rattle.nontrefalcu.specs.Exports.{numberOf, resultTable, headerWordsInTable, headerAt, headerTable, oneWord, lengthTable}
 use Rattle.nontrefalcu.specs.Writing.{canonicalInto}
 use Rattle.guarantees.specs.declared.WrittenAndRead.the-variants.{Wrote, Refused}
-use Rattle.guarantees.specs.Calls.{Lent, Left, left, form, readBack, answerOf, WroteAndRead}
+use Rattle.guarantees.specs.Calls.{Lent, Left, left, form, readBack, writtenAndRead, WroteAndRead}
 use Rattle.guarantees.specs.Noninterference.{RefusedSide}
 use Rattle.guarantees.proofs.Noninterference.{LentWords, written-bytes}
-use Rattle.export_guarantees.specs.Calls.{WordsLent, WordsLeft, WriteCall, ParseCall, WholeRoom, WordTables, Side, lentBy, leftBy}
+use Rattle.export_guarantees.specs.Calls.{WordsLent, WordsLeft, WriteCall, ParseCall, WholeRoom, WordTables, Side, lentBy, leftAfter}
 use Rattle.export_guarantees.specs.Noninterference.{RefusedExport, WrittenExport}
 
 -- What the writer's call leaves, with the tables as reading leaves them.
@@ -33,7 +33,7 @@ readLeft s =
     left (s .wrote .scratch) (s .wrote .out) (table bindingRows (readBack (form (lentBy s))) bindingTable) (table bufferRows (readBack (form (lentBy s))) bufferTable)
     (table variableRows (readBack (form (lentBy s))) variableTable) (table typeRows (readBack (form (lentBy s))) typeTable)
 
-pub side-calls : (s : Side) → WroteAndRead (lentBy s) (readLeft s) (answerOf (form (lentBy s)))
+pub side-calls : (s : Side) → WroteAndRead (lentBy s) (readLeft s) (writtenAndRead (form (lentBy s)))
 unfolding canonicalInto
 side-calls s = record {
   answer-is = refl;
@@ -69,11 +69,11 @@ module _ (l : WordsLent) (after : WordsLeft) (writing : WriteCall l after) where
   length-written bytes is one =
       writing .length ∙ ap (λ (o : Outcome Bytes). lengthTable o (size (l .length))) is ∙ ap (λ (k : ℕ). splice (replicate k 0) 0 (oneWord (size bytes))) one
 
-pub refused-export : (s : Side) (e : Refusal) → answerOf (form (lentBy s)) ≡ Refused e → RefusedSide (lentBy s) (readLeft s) → RefusedExport s e
-unfolding answerOf canonicalInto numberOf resultTable
+pub refused-export : (s : Side) (e : Refusal) → writtenAndRead (form (lentBy s)) ≡ Refused e → RefusedSide (lentBy s) (readLeft s) → RefusedExport s e
+unfolding writtenAndRead canonicalInto numberOf resultTable
 refused-export s e is zeros = go (form (lentBy s)) refl is
   where
-    go : (o : Outcome Bytes) → form (lentBy s) ≡ o → answerOf o ≡ Refused e → RefusedExport s e
+    go : (o : Outcome Bytes) → form (lentBy s) ≡ o → writtenAndRead o ≡ Refused e → RefusedExport s e
     go (ok bytes) formed same = absurd (let apart : _≡_ {A = ℕ} 0 1 = cc in omega arith)
     go (refused d) formed same =
         let d-is : d ≡ e = cc in
@@ -96,10 +96,10 @@ pub record ReadSide (s : Side) (n : ℕ) (found : Header) (bytes : Bytes) : Type
   pub formed : form (lentBy s) ≡ ok bytes
   pub long : size bytes ≡ n
   pub is : WrittenExport s n found
-  pub same-left : readLeft s ≡ leftBy s
+  pub same-left : readLeft s ≡ leftAfter s
 
-pub read-side : (s : Side) (n : ℕ) (found : Header) → answerOf (form (lentBy s)) ≡ Wrote n (Read found) → (bytes : Bytes) × ReadSide s n found bytes
-unfolding answerOf parsedOf canonicalInto numberOf readInto readBack resultTable
+pub read-side : (s : Side) (n : ℕ) (found : Header) → writtenAndRead (form (lentBy s)) ≡ Wrote n (Read found) → (bytes : Bytes) × ReadSide s n found bytes
+unfolding writtenAndRead parsedOf canonicalInto numberOf readInto readBack resultTable
 read-side s n found is = go (form (lentBy s)) refl is
   where
     by-read : (bytes : Bytes) → form (lentBy s) ≡ ok bytes → (o : Outcome (ResourceDef Text Text)) → read fullRoom bytes ≡ o → Wrote (size bytes) (parsedOf o) ≡ Wrote n (Read found)
@@ -113,7 +113,7 @@ read-side s n found is = go (form (lentBy s)) refl is
         let lent-chunk : take (getD (s .wrote .length) 0 0) (s .wrote .out) ≡ bytes =
         ap (λ (k : List ℕ). take (getD k 0 0) (s .wrote .out)) length-is
         ∙ ap (λ (k : ℕ). take k (s .wrote .out)) (sym long)
-        ∙ written-bytes (lentBy s) (readLeft s) (answerOf (form (lentBy s))) (side-calls s) bytes formed in
+        ∙ written-bytes (lentBy s) (readLeft s) (writtenAndRead (form (lentBy s))) (side-calls s) bytes formed in
         let before = s .found-before in
         let reads-as : readInto (take (getD (s .wrote .length) 0 0) (s .wrote .out)) (before .bindings) (before .buffers) (before .variables) (before .types) ≡ ok d =
         (λ i. read (whole-room before (s .room) i) (lent-chunk i)) ∙ reads in
@@ -140,6 +140,6 @@ read-side s n found is = go (form (lentBy s)) refl is
         }
     by-read bytes formed (refused e) reads same = absurd (let apart : _≡_ {A = ℕ} 0 1 = cc in omega arith)
 
-    go : (o : Outcome Bytes) → form (lentBy s) ≡ o → answerOf o ≡ Wrote n (Read found) → (bytes : Bytes) × ReadSide s n found bytes
+    go : (o : Outcome Bytes) → form (lentBy s) ≡ o → writtenAndRead o ≡ Wrote n (Read found) → (bytes : Bytes) × ReadSide s n found bytes
     go (ok bytes) formed same = (bytes, by-read bytes formed (read fullRoom bytes) refl same)
     go (refused e) formed same = absurd (let apart : _≡_ {A = ℕ} 0 1 = cc in omega arith)

@@ -96,5 +96,5 @@ abbrev pub lentBy : Side → Lent
 lentBy s =
     lent (s .given .chunk) (s .given .edits) (headerAt (s .given .header)) (s .given .bindings) (s .given .buffers) (s .given .variables) (s .given .types) (s .given .scratch) (s .given .out)
 
-abbrev pub leftBy : Side → Left
-leftBy s = left (s .wrote .scratch) (s .wrote .out) (s .found .bindings) (s .found .buffers) (s .found .variables) (s .found .types)
+abbrev pub leftAfter : Side → Left
+leftAfter s = left (s .wrote .scratch) (s .wrote .out) (s .found .bindings) (s .found .buffers) (s .found .variables) (s .found .types)

@@ -31,7 +31,7 @@ pub record LentAgain (s : Side) (n : ℕ) (l : WordsLent) : Type 0 where
   pub length : size (l .length) ≡ 1
 
 -- It answers 0 and n, and writes the same bytes.
-pub record SameAgain (s : Side) (n : ℕ) (after : WordsLeft) : Type 0 where
+pub record SameBytesAgain (s : Side) (n : ℕ) (after : WordsLeft) : Type 0 where
   pub answer : after .number ≡ 0
   pub length-is : after .length ≡ n ∷ []
   pub same-bytes : take n (after .out) ≡ take n (s .wrote .out)
@@ -44,7 +44,7 @@ pub record RestoredExport (s : Side) (n : ℕ) : Type 0 where
   pub restored :
       tableContents (take n (s .wrote .out)) [] (headerAt (s .found .header)) (s .found .bindings) (s .found .buffers) (s .found .variables) (s .found .types)
       ≡ reflectionIn (lentBy s)
-  pub again : (l : WordsLent) (after : WordsLeft) → WriteCall l after → LentAgain s n l → SameAgain s n after
+  pub again : (l : WordsLent) (after : WordsLeft) → WriteCall l after → LentAgain s n l → SameBytesAgain s n after
 
 pub data RoundTripOf (s : Side) : Type 0 where
   refused : (e : Refusal) → RefusedExport s e → RoundTripOf s

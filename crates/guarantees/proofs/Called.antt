@@ -20,7 +20,7 @@ use Rattle.emit.specs.declared.Written.{Written}
 use Rattle.emit.specs.declared.Written.the-variants.{Wrote as WroteBytes, Refused as NotWritten}
 use Rattle.emit.specs.Written.{writtenOf, outputOf}
 use Rattle.guarantees.specs.declared.WrittenAndRead.the-variants.{Wrote, Refused}
-use Rattle.guarantees.specs.Calls.{Lent, Left, reflectionIn, form, readBack, answerOf, WroteAndRead}
+use Rattle.guarantees.specs.Calls.{Lent, Left, reflectionIn, form, readBack, writtenAndRead, WroteAndRead}
 use Rattle.guarantees.proofs.Written.{written-form, written-part}
 
 -- The tables have document 01's whole room.
@@ -37,7 +37,7 @@ module _ (l : Lent) (after : Left) (written : Written) (answered : written ≡ w
   -- The writer refused, and the tables were cleared.
   pub called-refused : (e : Refusal) → written ≡ NotWritten e → after .found-bindings ≡ replicate (length b) 0 → after .found-buffers ≡ replicate (length f) 0
       → after .found-variables ≡ replicate (length v) 0 → after .found-types ≡ replicate (length t) 0 → WroteAndRead l after (Refused e)
-  unfolding writtenOf answerOf readBack table
+  unfolding writtenOf writtenAndRead readBack table
   called-refused e is bindings buffers variables types = go (form l) refl (sym is ∙ answered)
     where
       go : (o : Outcome Bytes) → form l ≡ o → NotWritten e ≡ writtenOf o → WroteAndRead l after (Refused e)
@@ -45,7 +45,7 @@ module _ (l : Lent) (after : Left) (written : Written) (answered : written ≡ w
       go (refused d) formed same =
           let d-is : e ≡ d = cc in
           record {
-            answer-is = ap Refused d-is ∙ sym (ap answerOf formed);
+            answer-is = ap Refused d-is ∙ sym (ap writtenAndRead formed);
             out-is = out;
             scratch-is = scratch;
             bindings-are = bindings ∙ zeros nb ∙ sym (ap (λ (o : Outcome Bytes). table bindingRows (readBack o) bindingTable) formed);
@@ -59,7 +59,7 @@ module _ (l : Lent) (after : Left) (written : Written) (answered : written ≡ w
       → after .found-bindings ≡ table bindingRows (readInto chunk b f v t) (length b) → after .found-buffers ≡ table bufferRows (readInto chunk b f v t) (length f)
       → after .found-variables ≡ table variableRows (readInto chunk b f v t) (length v) → after .found-types ≡ table typeRows (readInto chunk b f v t) (length t)
       → WroteAndRead l after (Wrote n parsed)
-  unfolding writtenOf outputOf answerOf readBack readInto
+  unfolding writtenOf outputOf writtenAndRead readBack readInto
   called-written n is parsed chunk chunk-is read-as bindings buffers variables types = go (form l) refl (sym is ∙ answered)
     where
       go : (o : Outcome Bytes) → form l ≡ o → WroteBytes n ≡ writtenOf o → WroteAndRead l after (Wrote n parsed)
@@ -70,7 +70,7 @@ module _ (l : Lent) (after : Left) (written : Written) (answered : written ≡ w
           let whole : chunk ≡ bytes = chunk-is ∙ (λ i. part (out-is i) 0 (n-is i)) ∙ written-part bytes (l .out) (omega (arith, fits)) in
           let reads : readInto chunk b f v t ≡ readBack (form l) = (λ i. read (whole-room nb nf nv nt i) (whole i)) ∙ sym (ap readBack formed) in
           record {
-            answer-is = (λ i. Wrote (n-is i) ((read-as ∙ (λ j. parsedOf (read (whole-room nb nf nv nt j) (whole j)))) i)) ∙ sym (ap answerOf formed);
+            answer-is = (λ i. Wrote (n-is i) ((read-as ∙ (λ j. parsedOf (read (whole-room nb nf nv nt j) (whole j)))) i)) ∙ sym (ap writtenAndRead formed);
             out-is = out;
             scratch-is = scratch;
             bindings-are = bindings ∙ (λ i. table bindingRows (reads i) (nb i));

@@ -35,8 +35,8 @@ use Rattle.hidden_ending.proofs.HiddenEnding.{hidden-ending}
 use Rattle.guarantees.specs.declared.WrittenAndRead.{WrittenAndRead}
 use Rattle.guarantees.specs.declared.WrittenAndRead.the-variants.{Wrote, Refused}
 use Rattle.guarantees.specs.declared.WrittenPair.{WrittenPair}
-use Rattle.guarantees.specs.Calls.{Lent, Left, reflectionIn, form, readBack, answerOf, WroteAndRead}
-use Rattle.guarantees.specs.Noninterference.{SharedButDefaults, Shared, placesFound, defaultsHeld, RefusedSide, WrittenSide, Alike, SameAnswers, both-refused, both-written}
+use Rattle.guarantees.specs.Calls.{Lent, Left, reflectionIn, form, readBack, writtenAndRead, WroteAndRead}
+use Rattle.guarantees.specs.Noninterference.{SharedButDefaults, Shared, placesFound, defaultsHeld, RefusedSide, WrittenSide, SidesAlike, SameAnswers, both-refused, both-written}
 use Rattle.guarantees.proofs.Written.{WrittenForm, written-form, written-start, written-rest}
 use Rattle.guarantees.proofs.Found.{places-read}
 
@@ -56,9 +56,9 @@ numbers-are-words l w r is =
 module _ (l : Lent) (after : Left) (answer : WrittenAndRead) (calls : WroteAndRead l after answer) where
   -- It was refused.
   pub refused-side : (e : Refusal) → form l ≡ refused e → (answer ≡ Refused e) × RefusedSide l after
-  unfolding answerOf outputOf
+  unfolding writtenAndRead outputOf
   refused-side e is = (
-    calls .answer-is ∙ ap answerOf is,
+    calls .answer-is ∙ ap writtenAndRead is,
     record { out-zero = calls .out-is ∙ ap (λ (o : Outcome Bytes). outputOf o (l .out)) is; scratch-zero = calls .scratch-is },
   )
 
@@ -80,8 +80,8 @@ module _ (l : Lent) (after : Left) (answer : WrittenAndRead) (calls : WroteAndRe
     -- What reading found, of which this is the header.
     module _ (found : ResourceDef Text Text) (reads : read fullRoom bytes ≡ ok found) where
       pub written-answer : answer ≡ Wrote (length bytes) (Read (headerOf found))
-      unfolding answerOf parsedOf
-      written-answer = calls .answer-is ∙ ap answerOf is ∙ ap (λ (o : Outcome (ResourceDef Text Text)). Wrote (length bytes) (parsedOf o)) reads
+      unfolding writtenAndRead parsedOf
+      written-answer = calls .answer-is ∙ ap writtenAndRead is ∙ ap (λ (o : Outcome (ResourceDef Text Text)). Wrote (length bytes) (parsedOf o)) reads
 
       pub read-outcome : readBack (form l) ≡ ok found
       unfolding readBack

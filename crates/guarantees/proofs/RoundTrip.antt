@@ -38,8 +38,8 @@ use Rattle.round_trip.proofs.RoundTrip.{round-trip}
 use Rattle.guarantees.specs.declared.WrittenAndRead.{WrittenAndRead}
 use Rattle.guarantees.specs.declared.WrittenAndRead.the-variants.{Wrote, Refused}
 use Rattle.guarantees.specs.declared.WrittenTwice.{WrittenTwice}
-use Rattle.guarantees.specs.Calls.{Lent, Left, reflectionIn, form, readBack, answerOf, WroteAndRead}
-use Rattle.guarantees.specs.RoundTrip.{writtenAgain, again, SameAgain, Restored, refused-first, restored, RoundTrip}
+use Rattle.guarantees.specs.Calls.{Lent, Left, reflectionIn, form, readBack, writtenAndRead, WroteAndRead}
+use Rattle.guarantees.specs.RoundTrip.{writtenAgain, again, SameAgain, FieldsRestored, refused-first, restored, RoundTrip}
 use Rattle.guarantees.proofs.Written.{WrittenForm, written-form, written-start, written-rest, written-part}
 use Rattle.guarantees.proofs.Noninterference.{LentWords, numbers-are-words, refused-side, written-bytes, written-answer, read-outcome}
 
@@ -90,29 +90,29 @@ module _ (l : Lent) (after : Left) (answer : WrittenAndRead) (calls : WroteAndRe
 -- The second writing's outcome, by the first answer.
 module _ (l : Lent) (after : Left) (answer : WrittenAndRead) (calls : WroteAndRead l after answer) (scratch room : ℕ) where
   pub again-refused : (e : Refusal) → answer ≡ Refused e → again scratch room (form l) ≡ refused e
-  unfolding again answerOf
+  unfolding again writtenAndRead
   again-refused e is = go (form l) (sym is ∙ calls .answer-is)
     where
-      go : (o : Outcome Bytes) → Refused e ≡ answerOf o → again scratch room o ≡ refused e
+      go : (o : Outcome Bytes) → Refused e ≡ writtenAndRead o → again scratch room o ≡ refused e
       go (ok bytes) same = absurd (let apart : _≡_ {A = ℕ} 0 1 = cc in omega arith)
       go (refused d) same = cc
 
   pub again-unread : (n : ℕ) (e : Refusal) → answer ≡ Wrote n (NotRead e) → again scratch room (form l) ≡ refused e
-  unfolding again answerOf parsedOf
+  unfolding again writtenAndRead parsedOf
   again-unread n e is = go (form l) (sym is ∙ calls .answer-is)
     where
       by-read : (bytes : Bytes) (o : Outcome (ResourceDef Text Text)) → Wrote n (NotRead e) ≡ Wrote (length bytes) (parsedOf o) → writtenAgain scratch room bytes o ≡ refused e
       by-read bytes (ok found) same = absurd (let apart : _≡_ {A = ℕ} 0 1 = cc in omega arith)
       by-read bytes (refused d) same = cc
 
-      go : (o : Outcome Bytes) → Wrote n (NotRead e) ≡ answerOf o → again scratch room o ≡ refused e
+      go : (o : Outcome Bytes) → Wrote n (NotRead e) ≡ writtenAndRead o → again scratch room o ≡ refused e
       go (ok bytes) same = by-read bytes (read fullRoom bytes) same
       go (refused d) same = absurd (let apart : _≡_ {A = ℕ} 0 1 = cc in omega arith)
 
   pub again-written : (n : ℕ) (h : Header) → answer ≡ Wrote n (Read h) → ByteList (after .out)
       → again scratch room (form l)
       ≡ write scratch room (tableContents (part (after .out) 0 n) [] h (after .found-bindings) (after .found-buffers) (after .found-variables) (after .found-types))
-  unfolding again answerOf parsedOf readBack outputOf
+  unfolding again writtenAndRead parsedOf readBack outputOf
   again-written n h is are-bytes = go (form l) refl (sym is ∙ calls .answer-is)
     where
       second : Bytes → Header → Outcome Bytes
@@ -131,7 +131,7 @@ module _ (l : Lent) (after : Left) (answer : WrittenAndRead) (calls : WroteAndRe
           ∙ sym (λ i. second (chunk i) (h-is i))
       by-read bytes formed (refused d) reads same = absurd (let apart : _≡_ {A = ℕ} 0 1 = cc in omega arith)
 
-      go : (o : Outcome Bytes) → form l ≡ o → Wrote n (Read h) ≡ answerOf o → again scratch room o ≡ second (part (after .out) 0 n) h
+      go : (o : Outcome Bytes) → form l ≡ o → Wrote n (Read h) ≡ writtenAndRead o → again scratch room o ≡ second (part (after .out) 0 n) h
       go (ok bytes) formed same = by-read bytes formed (read fullRoom bytes) refl same
       go (refused d) formed same = absurd (let apart : _≡_ {A = ℕ} 0 1 = cc in omega arith)
 
@@ -194,7 +194,7 @@ module _
   abbrev twice : Outcome Bytes
   twice = again (length (l .scratch)) (length second) (form l)
 
-  first-refused : (e : Refusal) → form l ≡ refused e → Restored l after second second-after answer
+  first-refused : (e : Refusal) → form l ≡ refused e → FieldsRestored l after second second-after answer
   unfolding again writtenOf outputOf
   first-refused e is =
       let (answered, side) = refused-side l after (answer .first) calls e is in
@@ -246,14 +246,14 @@ module _
           (answer-again ∙ ap writtenOf refused-twice, out-again ∙ ap (λ (o : Outcome Bytes). outputOf o second) refused-twice));
     }
 
-    written-restored : Restored l after second second-after answer
+    written-restored : FieldsRestored l after second second-after answer
     written-restored =
         restored (length (canonical r)) (headerOf (back .read-back)) (written-answer l after (answer .first) calls (canonical r) is (back .read-back) (back .reads)) held-again same-again
 
-  pub round-trip-demand : Restored l after second second-after answer
+  pub round-trip-demand : FieldsRestored l after second second-after answer
   round-trip-demand = go (form l) refl
     where
-      go : (o : Outcome Bytes) → form l ≡ o → Restored l after second second-after answer
+      go : (o : Outcome Bytes) → form l ≡ o → FieldsRestored l after second second-after answer
       go (ok bytes) is =
           let wrote = written-form (length (l .scratch)) (length (l .out)) (reflectionIn l) bytes is in
           let bytes-are = sym (wrote .is-form) in

@@ -64,13 +64,13 @@ readBack (ok bytes) = read fullRoom bytes
 readBack (refused e) = refused e
 
 -- The answer's two cases.
-unfoldable pub answerOf : Outcome Bytes → WrittenAndRead
-answerOf (ok bytes) = Wrote (length bytes) (parsedOf (read fullRoom bytes))
-answerOf (refused e) = Refused e
+unfoldable pub writtenAndRead : Outcome Bytes → WrittenAndRead
+writtenAndRead (ok bytes) = Wrote (length bytes) (parsedOf (read fullRoom bytes))
+writtenAndRead (refused e) = Refused e
 
 -- What `write_and_read` answers and leaves: every word and every byte.
 pub record WroteAndRead (l : Lent) (after : Left) (answer : WrittenAndRead) : Type 0 where
-  pub answer-is : answer ≡ answerOf (form l)
+  pub answer-is : answer ≡ writtenAndRead (form l)
   pub out-is : after .out ≡ outputOf (form l) (l .out)
   pub scratch-is : after .scratch ≡ replicate (length (l .scratch)) 0
   pub bindings-are : after .found-bindings ≡ table bindingRows (readBack (form l)) bindingTable

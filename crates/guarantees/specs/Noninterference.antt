@@ -68,7 +68,7 @@ pub record WrittenSide (l : Lent) (after : Left) (n : ℕ) (places : List Text) 
   pub scratch-zero : after .scratch ≡ replicate (length (l .scratch)) 0
 
 -- Two sides of which n bytes were written, and whose variables' tables were found with so many records: alike in all but the defaults' own bytes.
-pub record Alike (a b : Lent) (after-a after-b : Left) (n count-a count-b : ℕ) : Type 0 where
+pub record SidesAlike (a b : Lent) (after-a after-b : Left) (n count-a count-b : ℕ) : Type 0 where
   pub same-places : placesFound count-a after-a ≡ placesFound count-b after-b
   pub same-outside : (p : ℕ) → p < n → (Covered p (placesFound count-a after-a) → ⊥) → getD (after-a .out) p 0 ≡ getD (after-b .out) p 0
   pub side-a : WrittenSide a after-a n (placesFound count-a after-a)
@@ -79,7 +79,7 @@ pub data SameAnswers (a b : Lent) (after-a after-b : Left) (answer : WrittenPair
       (e : Refusal) → answer .a ≡ Refused e → answer .b ≡ Refused e → RefusedSide a after-a → RefusedSide b after-b → SameAnswers a b after-a after-b answer
   both-written :
       (n : ℕ) (found-a found-b : Header) → answer .a ≡ Wrote n (Read found-a) → answer .b ≡ Wrote n (Read found-b)
-      → Alike a b after-a after-b n (found-a .«variable_count») (found-b .«variable_count») → SameAnswers a b after-a after-b answer
+      → SidesAlike a b after-a after-b n (found-a .«variable_count») (found-b .«variable_count») → SameAnswers a b after-a after-b answer
 
 -- What `write_pair` answers and leaves: of each side what `write_and_read` does, and demand 3.
 pub record Noninterference (a b : Lent) (after-a after-b : Left) (answer : WrittenPair) : Type 0 where

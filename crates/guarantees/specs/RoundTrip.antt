@@ -46,18 +46,18 @@ pub record SameAgain (n : ℕ) (first before after : Bytes) (answer : WrittenTwi
   pub without-room : length before < n → (answer .again ≡ RefusedAgain (because outputTooSmall)) × (after ≡ replicate (length before) 0)
 
 -- The lent tables' reflection was refused, or written and restored. `second` is the second output before, `second-after` after the call.
-pub data Restored (l : Lent) (after : Left) (second second-after : Bytes) (answer : WrittenTwice) : Type 0 where
+pub data FieldsRestored (l : Lent) (after : Left) (second second-after : Bytes) (answer : WrittenTwice) : Type 0 where
   refused-first :
       (e : Refusal) → answer .first ≡ Refused e → answer .again ≡ RefusedAgain e → after .out ≡ replicate (length (l .out)) 0
-      → second-after ≡ replicate (length second) 0 → Restored l after second second-after answer
+      → second-after ≡ replicate (length second) 0 → FieldsRestored l after second second-after answer
   restored :
       (n : ℕ) (found : Header) → answer .first ≡ Wrote n (Read found)
       → tableContents (take n (after .out)) [] found (after .found-bindings) (after .found-buffers) (after .found-variables) (after .found-types) ≡ reflectionIn l
-      → SameAgain n (after .out) second second-after answer → Restored l after second second-after answer
+      → SameAgain n (after .out) second second-after answer → FieldsRestored l after second second-after answer
 
 -- What `write_read_write` answers and leaves: of the first writing what `write_and_read` does, of the second the answer and the output; and demand 2.
 pub record RoundTrip (l : Lent) (after : Left) (second second-after : Bytes) (answer : WrittenTwice) : Type 0 where
   pub first : WroteAndRead l after (answer .first)
   pub answer-again : answer .again ≡ writtenOf (again (length (l .scratch)) (length second) (form l))
   pub out-again : second-after ≡ outputOf (again (length (l .scratch)) (length second) (form l)) second
-  pub demand : Restored l after second second-after answer
+  pub demand : FieldsRestored l after second second-after answer

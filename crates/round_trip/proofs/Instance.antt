@@ -37,7 +37,7 @@ use Rattle.round_trip.proofs.RoundTrip.{round-trip}
 
 -- A name for all that has to compute.
 unfoldable computing : Unit {0}
-unfolding Words.wordBytes Parts.inside Parts.part TextSame.sameBytes Utf8.run Utf8.wellFormed Strings.withoutNul Reflection.memberCount Reflection.mapType Reflection.mapBinding Reflection.mapVariable Reflection.mapBuffer Reflection.mapDef Texts.textBytes Nodes.nodesOf Tables.allVariables Contents.contents Contents.typeNames Contents.variableNames Contents.outerNames Contents.innerNames Chunks.bytes Chunks.header Chunks.rd11Words Chunks.globalsText Chunks.kText Chunks.noText Chunks.caseV Chunks.caseV5 Chunks.float Chunks.globals Chunks.readV Readable.every Readable.nameReadable Readable.defaultReadable Readable.zeroUnless Rd11.rd11Allowed Readable.versionReadable Readable.bindingReadable Readable.numbersReadable Readable.typeReadable Readable.variableReadable Readable.nodeCount Readable.roomKept Readable.readableContents Step._>>=_ Step.return Step.append Step.remember Step.paddingAt Step.pad Step.wordCells Step.ahead Step.find Step.once Step.rememberIf Step.unlessEmpty Step.below Step.cellsOf Records.halves Records.typeWordsInChunk Records.variableWordsInChunk Records.bufferWordsInChunk Records.bindingWordsInChunk Records.rd11Words Records.headerWordsInChunk Records.rows Same.numbersOf Same.sameType Layout.zip Layout.nameCells Layout.placeOuterName Layout.placeInnerName Layout.placeDefault Layout.writeType Layout.placeType Layout.placeVariable Layout.placeVariables Layout.placeSection Layout.placeSections Layout.placeOuterNames Layout.placeBufferParts Layout.placeBuffers Layout.placeBody Layout.placeChunk Layout.layout Canonical.bytesOracle Canonical.fill Canonical.canonical RoundTrip.typeNumbers RoundTrip.variableNumbers RoundTrip.bindingNumbers RoundTrip.bufferNumbers RoundTrip.EachIsWord RoundTrip.AllWords RoundTrip.BuffersWords
+unfolding Words.wordBytes Parts.inside Parts.part TextSame.sameBytes Utf8.run Utf8.wellFormed Strings.withoutNul Reflection.memberCount Reflection.mapType Reflection.mapBinding Reflection.mapVariable Reflection.mapBuffer Reflection.mapDef Texts.textBytes Nodes.nodesOf Tables.allVariables Contents.contents Contents.typeNames Contents.variableNames Contents.outerNames Contents.innerNames Chunks.bytes Chunks.header Chunks.rd11Bytes Chunks.globalsText Chunks.kText Chunks.noText Chunks.caseV Chunks.caseV5 Chunks.float Chunks.globals Chunks.readV Readable.every Readable.nameReadable Readable.defaultReadable Readable.zeroUnless Rd11.rd11Allowed Readable.versionReadable Readable.bindingReadable Readable.numbersReadable Readable.typeReadable Readable.variableReadable Readable.nodeCount Readable.roomKept Readable.readableContents Step._>>=_ Step.return Step.append Step.remember Step.paddingAt Step.pad Step.wordCells Step.ahead Step.find Step.once Step.rememberIf Step.unlessEmpty Step.below Step.cellsOf Records.halves Records.typeWordsInChunk Records.variableWordsInChunk Records.bufferWordsInChunk Records.bindingWordsInChunk Records.rd11Words Records.headerWordsInChunk Records.rows Same.numbersOf Same.sameType Layout.zip Layout.nameCells Layout.placeOuterName Layout.placeInnerName Layout.placeDefault Layout.writeType Layout.placeType Layout.placeVariable Layout.placeVariables Layout.placeSection Layout.placeSections Layout.placeOuterNames Layout.placeBufferParts Layout.placeBuffers Layout.placeBody Layout.placeChunk Layout.layout Canonical.bytesOracle Canonical.fill Canonical.canonical RoundTrip.typeNumbers RoundTrip.variableNumbers RoundTrip.bindingNumbers RoundTrip.bufferNumbers RoundTrip.EachIsWord RoundTrip.AllWords RoundTrip.BuffersWords
 computing = tt
 
 -- Case V with a default of four bytes, and case V in major 5.

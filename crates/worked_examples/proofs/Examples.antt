@@ -132,7 +132,7 @@ unfolding Digits.hex Listing.scalars Listing.padTo Listing.setNames Listing.flag
 listed = tt
 
 unfoldable edge-chunks : Unit {0}
-unfolding EdgeChunks.bytes EdgeChunks.header EdgeChunks.rd11Words EdgeChunks.globalsText EdgeChunks.kText EdgeChunks.noText EdgeChunks.caseV EdgeChunks.caseV5
+unfolding EdgeChunks.bytes EdgeChunks.header EdgeChunks.rd11Bytes EdgeChunks.globalsText EdgeChunks.kText EdgeChunks.noText EdgeChunks.caseV EdgeChunks.caseV5
 edge-chunks = tt
 
 unfoldable edge-contents : Unit {0}

@@ -26,8 +26,8 @@ major4 = 1024
 abbrev pub major5 : ℕ
 major5 = 1280
 
-unfoldable pub rd11Words : Bytes
-rd11Words = bytes (0x31314452 ∷ 60 ∷ 24 ∷ 32 ∷ 40 ∷ 36 ∷ 12 ∷ 0 ∷ [])
+unfoldable pub rd11Bytes : Bytes
+rd11Bytes = bytes (0x31314452 ∷ 60 ∷ 24 ∷ 32 ∷ 40 ∷ 36 ∷ 12 ∷ 0 ∷ [])
 
 -- `$Globals`, NUL and padding; `k`, NUL and padding; the empty creator and padding.
 unfoldable pub globalsText : Bytes
@@ -49,7 +49,7 @@ caseV default =
 -- The same in major 5: buffer at 60, name at 84, variable at 96, its name at 136, its type at 140, the creator at 176; 180 bytes.
 unfoldable pub caseV5 : Bytes
 caseV5 =
-    header 1 60 0 60 major5 176 ++ rd11Words ++ bytes (84 ∷ 1 ∷ 96 ∷ 16 ∷ 0 ∷ 0 ∷ []) ++ globalsText
+    header 1 60 0 60 major5 176 ++ rd11Bytes ++ bytes (84 ∷ 1 ∷ 96 ∷ 16 ∷ 0 ∷ 0 ∷ []) ++ globalsText
     ++ bytes (136 ∷ 0 ∷ 4 ∷ 2 ∷ 140 ∷ 0 ∷ 0xffffffff ∷ 0 ∷ 0xffffffff ∷ 0 ∷ []) ++ kText
     ++ bytes (0x30000 ∷ 0x10001 ∷ 0 ∷ 0 ∷ 0 ∷ 0 ∷ 0 ∷ 0 ∷ 0 ∷ []) ++ noText
 
