@@ -9,10 +9,10 @@
 --     place in both; every one of the first n bytes outside these places is equal; at each place stand that side's own bytes; bytes past n are as they were;
 --     the scratch is zero.
 --
--- Definitions that this rests on: `held`, what tables hold (crates/readable/specs/Readable.antt); `SameButDefaults`, two reflections that differ only in the
--- bytes of their defaults, and `Covered`, a byte's index lies in one of some texts (crates/hidden_ending/specs/HiddenEnding.antt); `variableAt`, a variable's
--- record in a table (crates/reflection/specs/Records.antt); `textBytes`, the bytes of a text (crates/reflection/specs/Texts.antt); what was lent and what is
--- left: Calls.antt. proofs/Noninterference.antt proves it.
+-- Definitions that this rests on: `tableContents`, what tables hold (crates/readable/specs/Readable.antt); `SameButDefaults`, two reflections that
+-- differ only in the bytes of their defaults, and `Covered`, a byte's index lies in one of some texts (crates/hidden_ending/specs/HiddenEnding.antt);
+-- `variableAt`, a variable's record in a table (crates/reflection/specs/Records.antt); `textBytes`, the bytes of a text
+-- (crates/reflection/specs/Texts.antt); what was lent and what is left: Calls.antt. proofs/Noninterference.antt proves it.
 use mathlib.Core.Path.{_≡_}
 use mathlib.Core.List.{List, [], map}
 use mathlib.Core.Option.{Option, none, some}
