@@ -18,20 +18,25 @@ fn the_report_of_case_v() {
     assert_eq!(report(&[0; 27]), "refused\t1\n");
 }
 
-/// `bin/make-report-cases crates/report_vectors` writes what is there.
+/// What the program `replay` must print after the heading of the reports.
+fn stored_output() -> &'static str {
+    let printed = include_str!("../../crates/replay/stdout");
+    &printed[stored::reports_at(printed).expect("the heading is there")..]
+}
+
+/// `bin/make-report-cases crates/replay` writes what is there.
 #[test]
 fn the_stored_files_are_made_of_these_chunks() {
     let chunks = stored::chunks();
     assert!(samples::all().iter().all(|sample| chunks.contains(&sample.bytes)));
-    assert!(stored::input(&chunks) == include_bytes!("../../crates/report_vectors/stdin"));
-    assert!(stored::output(&chunks) == include_str!("../../crates/report_vectors/stdout"));
+    assert!(stored::input(&chunks) == include_bytes!("../../crates/replay/stdin"));
+    assert!(stored::output(&chunks) == stored_output());
 }
 
 /// The stored reports, each as its lines and each line as its keyword and fields.
 fn stored_reports() -> Vec<Vec<Vec<&'static str>>> {
-    let output = include_str!("../../crates/report_vectors/stdout");
     let lines = |report: &'static str| report.lines().map(|line| line.split('\t').collect()).collect();
-    output.split_terminator("\n\n").map(lines).collect()
+    stored_output().split_terminator("\n\n").map(lines).collect()
 }
 
 /// Each kind of line in major 4 and in major 5 with each stride, each name and default empty and not, and each
@@ -97,7 +102,8 @@ fn the_comparison_finds_what_is_wrong() {
     let generator = Generator::new(9);
     let right: String = (0..400).map(|number| report(&generator.chunk(number).1) + "\n").collect();
     let different = |name: &str, text: &str, ending: &str| {
-        let tally = reports(&mut printing(name, text, ending), &generator, 0..400);
+        let printed = format!("reading\nno file\n{}{text}", stored::HEADING);
+        let tally = reports(&mut printing(name, &printed, ending), &generator, 0..400);
         assert_eq!(tally.compared, 400);
         tally.different
     };
@@ -118,4 +124,6 @@ fn the_comparison_finds_what_is_wrong() {
     let (cut, _) = right[..right.len() - 2].rsplit_once("\n\n").expect("there are many");
     assert_eq!(different("cut", &format!("{cut}\n\n"), "0"), 1);
     assert_eq!(different("more", &format!("{right}rdef\n\n"), "0"), 1);
+    // All of them, with no heading before them.
+    assert_eq!(reports(&mut printing("no_heading", &right, "0"), &generator, 0..400).different, 400);
 }

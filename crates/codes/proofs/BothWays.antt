@@ -31,7 +31,8 @@ module _ {E X : Type 0} (row : X → E × ℕ) where
   lookup-of-cases [] n = refl
   lookup-of-cases (x ∷ xs) n = go (eqb (row x .1) n) (lookup-of-cases xs n)
     where
-      go : (b : Bool) → lookup (map row xs) n ≡ Option·map row (caseAt row xs n) → elim b [ true ↦ some (row x) | false ↦ lookup (map row xs) n ] ≡ Option·map row (elim b [ true ↦ some x | false ↦ caseAt row xs n ])
+      go : (b : Bool) → lookup (map row xs) n ≡ Option·map row (caseAt row xs n)
+          → elim b [ true ↦ some (row x) | false ↦ lookup (map row xs) n ] ≡ Option·map row (elim b [ true ↦ some x | false ↦ caseAt row xs n ])
       go true later = refl
       go false later = later
 

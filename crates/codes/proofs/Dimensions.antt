@@ -9,7 +9,9 @@ use Rattle.codes.specs.Table.{lookup, known, isRow}
 use Rattle.codes.specs.Microsoft.{srvDimensions}
 use Rattle.codes.specs.Dimension.{dimensionRow, dimensionAnswer}
 use Rattle.codes.specs.declared.dimension.ResourceDimension.{ResourceDimension}
-use Rattle.codes.specs.declared.dimension.ResourceDimension.the-variants.{Unknown, Buffer, Texture1D, Texture1DArray, Texture2D, Texture2DArray, Texture2DMS, Texture2DMSArray, Texture3D, TextureCube, TextureCubeArray, BufferEx}
+use Rattle.codes.specs.declared.dimension.ResourceDimension.the-variants.{Unknown, Buffer, Texture1D, Texture1DArray, Texture2D, Texture2DArray}
+use Rattle.codes.specs.declared.dimension.ResourceDimension.the-variants.{Texture2DMS, Texture2DMSArray, Texture3D, TextureCube}
+use Rattle.codes.specs.declared.dimension.ResourceDimension.the-variants.{TextureCubeArray, BufferEx}
 use Rattle.codes.specs.declared.dimension.DimensionCode.{DimensionCode}
 use Rattle.codes.specs.declared.dimension.DimensionCode.the-variants.{Known, Unknown as NoDimension}
 use Rattle.codes.proofs.Lookup.{known-up-to}

@@ -8,7 +8,10 @@ use Rattle.codes.specs.Table.{lookup, known, isRow}
 use Rattle.codes.specs.Microsoft.{inputTypes}
 use Rattle.codes.specs.InputType.{inputTypeRow, inputTypeAnswer}
 use Rattle.codes.specs.declared.input_type.ResourceInputType.{ResourceInputType}
-use Rattle.codes.specs.declared.input_type.ResourceInputType.the-variants.{CBuffer, TBuffer, Texture, Sampler, UavRwTyped, Structured, UavRwStructured, ByteAddress, UavRwByteAddress, UavAppendStructured, UavConsumeStructured, UavRwStructuredWithCounter, RtAccelerationStructure, UavFeedbackTexture}
+use Rattle.codes.specs.declared.input_type.ResourceInputType.the-variants.{CBuffer, TBuffer, Texture, Sampler, UavRwTyped, Structured}
+use Rattle.codes.specs.declared.input_type.ResourceInputType.the-variants.{UavRwStructured, ByteAddress, UavRwByteAddress, UavAppendStructured}
+use Rattle.codes.specs.declared.input_type.ResourceInputType.the-variants.{UavConsumeStructured, UavRwStructuredWithCounter}
+use Rattle.codes.specs.declared.input_type.ResourceInputType.the-variants.{RtAccelerationStructure, UavFeedbackTexture}
 use Rattle.codes.specs.declared.input_type.InputTypeCode.{InputTypeCode}
 use Rattle.codes.specs.declared.input_type.InputTypeCode.the-variants.{Known, Unknown}
 use Rattle.codes.proofs.Lookup.{known-up-to}

@@ -4,4 +4,3 @@ pub mod InputTypes
 pub mod Dimensions
 pub mod VariableClasses
 pub mod BaseTypes
-pub mod Masks

@@ -48,11 +48,13 @@ module _ {A : Type 0} where
   found-has-number [] n row e = absurd (Option·none-ne-some row e)
   found-has-number (first ∷ rows) n row e = go (eqb (first .1) n) refl (found-has-number rows n row) e
     where
-      go : (b : Bool) → eqb (first .1) n ≡ b → (lookup rows n ≡ some row → row .1 ≡ n) → elim b [ true ↦ some first | false ↦ lookup rows n ] ≡ some row → row .1 ≡ n
+      go : (b : Bool) → eqb (first .1) n ≡ b → (lookup rows n ≡ some row → row .1 ≡ n)
+          → elim b [ true ↦ some first | false ↦ lookup rows n ] ≡ some row → row .1 ≡ n
       go true q later e = ap (λ (r : A × ℕ). r .1) (sym (Option·some-injective first row e)) ∙ eqb-true (first .1) n q
       go false q later e = later e
 
-  pub answer-known : {R : Type 0} (answer : R → Option (A × ℕ)) (table : Table A) (n : ℕ) {r s : R} → answer r ≡ lookup table n → r ≡ s → isRow (answer s) ≡ known table n
+  pub answer-known : {R : Type 0} (answer : R → Option (A × ℕ)) (table : Table A) (n : ℕ) {r s : R} → answer r ≡ lookup table n → r ≡ s
+      → isRow (answer s) ≡ known table n
   unfolding known
   answer-known answer table n e is = ap (λ r. isRow (answer r)) (sym is) ∙ ap isRow e
 
@@ -82,6 +84,7 @@ module _ {A : Type 0} where
   known-one-of [] n = refl
   known-one-of (row ∷ rows) n = go (eqb (row .1) n) (known-one-of rows n)
     where
-      go : (b : Bool) → known rows n ≡ oneOf (map (λ (row : A × ℕ). row .1) rows) n → isRow {A = A × ℕ} (elim b [ true ↦ some row | false ↦ lookup rows n ]) ≡ b || oneOf (map (λ (row : A × ℕ). row .1) rows) n
+      go : (b : Bool) → known rows n ≡ oneOf (map (λ (row : A × ℕ). row .1) rows) n
+          → isRow {A = A × ℕ} (elim b [ true ↦ some row | false ↦ lookup rows n ]) ≡ b || oneOf (map (λ (row : A × ℕ). row .1) rows) n
       go true later = refl
       go false later = later

@@ -8,7 +8,8 @@ use Rattle.codes.specs.Table.{lookup, known, isRow}
 use Rattle.codes.specs.Microsoft.{variableClasses}
 use Rattle.codes.specs.Variable.{classRow, classAnswer}
 use Rattle.codes.specs.declared.variable.VariableClass.{VariableClass}
-use Rattle.codes.specs.declared.variable.VariableClass.the-variants.{Scalar, Vector, MatrixRows, MatrixColumns, Object, Struct, InterfaceClass, InterfacePointer}
+use Rattle.codes.specs.declared.variable.VariableClass.the-variants.{Scalar, Vector, MatrixRows, MatrixColumns, Object, Struct, InterfaceClass}
+use Rattle.codes.specs.declared.variable.VariableClass.the-variants.{InterfacePointer}
 use Rattle.codes.specs.declared.variable.VariableClassCode.{VariableClassCode}
 use Rattle.codes.specs.declared.variable.VariableClassCode.the-variants.{Known, Unknown}
 use Rattle.codes.proofs.Lookup.{known-up-to}

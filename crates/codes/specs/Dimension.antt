@@ -1,9 +1,14 @@
 -- Which row of D3D_SRV_DIMENSION each case of ResourceDimension is, and which row an answer names.
 use mathlib.Core.Option.{Option, none, some}
 use Prim.Native.Nat.{ℕ}
-use Rattle.codes.specs.Microsoft.{«D3D_SRV_DIMENSION», «D3D_SRV_DIMENSION_UNKNOWN», «D3D_SRV_DIMENSION_BUFFER», «D3D_SRV_DIMENSION_TEXTURE1D», «D3D_SRV_DIMENSION_TEXTURE1DARRAY», «D3D_SRV_DIMENSION_TEXTURE2D», «D3D_SRV_DIMENSION_TEXTURE2DARRAY», «D3D_SRV_DIMENSION_TEXTURE2DMS», «D3D_SRV_DIMENSION_TEXTURE2DMSARRAY», «D3D_SRV_DIMENSION_TEXTURE3D», «D3D_SRV_DIMENSION_TEXTURECUBE», «D3D_SRV_DIMENSION_TEXTURECUBEARRAY», «D3D_SRV_DIMENSION_BUFFEREX»}
+use Rattle.codes.specs.Microsoft.{«D3D_SRV_DIMENSION», «D3D_SRV_DIMENSION_UNKNOWN», «D3D_SRV_DIMENSION_BUFFER», «D3D_SRV_DIMENSION_TEXTURE1D»}
+use Rattle.codes.specs.Microsoft.{«D3D_SRV_DIMENSION_TEXTURE1DARRAY», «D3D_SRV_DIMENSION_TEXTURE2D», «D3D_SRV_DIMENSION_TEXTURE2DARRAY»}
+use Rattle.codes.specs.Microsoft.{«D3D_SRV_DIMENSION_TEXTURE2DMS», «D3D_SRV_DIMENSION_TEXTURE2DMSARRAY», «D3D_SRV_DIMENSION_TEXTURE3D»}
+use Rattle.codes.specs.Microsoft.{«D3D_SRV_DIMENSION_TEXTURECUBE», «D3D_SRV_DIMENSION_TEXTURECUBEARRAY», «D3D_SRV_DIMENSION_BUFFEREX»}
 use Rattle.codes.specs.declared.dimension.ResourceDimension.{ResourceDimension}
-use Rattle.codes.specs.declared.dimension.ResourceDimension.the-variants.{Unknown, Buffer, Texture1D, Texture1DArray, Texture2D, Texture2DArray, Texture2DMS, Texture2DMSArray, Texture3D, TextureCube, TextureCubeArray, BufferEx}
+use Rattle.codes.specs.declared.dimension.ResourceDimension.the-variants.{Unknown, Buffer, Texture1D, Texture1DArray, Texture2D, Texture2DArray}
+use Rattle.codes.specs.declared.dimension.ResourceDimension.the-variants.{Texture2DMS, Texture2DMSArray, Texture3D, TextureCube}
+use Rattle.codes.specs.declared.dimension.ResourceDimension.the-variants.{TextureCubeArray, BufferEx}
 use Rattle.codes.specs.declared.dimension.DimensionCode.{DimensionCode}
 use Rattle.codes.specs.declared.dimension.DimensionCode.the-variants.{Known, Unknown as NoDimension}
 

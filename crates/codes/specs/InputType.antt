@@ -1,9 +1,15 @@
 -- Which row of D3D_SHADER_INPUT_TYPE each case of ResourceInputType is, and which row an answer names.
 use mathlib.Core.Option.{Option, none, some}
 use Prim.Native.Nat.{ℕ}
-use Rattle.codes.specs.Microsoft.{«D3D_SHADER_INPUT_TYPE», «D3D_SIT_CBUFFER», «D3D_SIT_TBUFFER», «D3D_SIT_TEXTURE», «D3D_SIT_SAMPLER», «D3D_SIT_UAV_RWTYPED», «D3D_SIT_STRUCTURED», «D3D_SIT_UAV_RWSTRUCTURED», «D3D_SIT_BYTEADDRESS», «D3D_SIT_UAV_RWBYTEADDRESS», «D3D_SIT_UAV_APPEND_STRUCTURED», «D3D_SIT_UAV_CONSUME_STRUCTURED», «D3D_SIT_UAV_RWSTRUCTURED_WITH_COUNTER», «D3D_SIT_RTACCELERATIONSTRUCTURE», «D3D_SIT_UAV_FEEDBACKTEXTURE»}
+use Rattle.codes.specs.Microsoft.{«D3D_SHADER_INPUT_TYPE», «D3D_SIT_CBUFFER», «D3D_SIT_TBUFFER», «D3D_SIT_TEXTURE», «D3D_SIT_SAMPLER»}
+use Rattle.codes.specs.Microsoft.{«D3D_SIT_UAV_RWTYPED», «D3D_SIT_STRUCTURED», «D3D_SIT_UAV_RWSTRUCTURED», «D3D_SIT_BYTEADDRESS»}
+use Rattle.codes.specs.Microsoft.{«D3D_SIT_UAV_RWBYTEADDRESS», «D3D_SIT_UAV_APPEND_STRUCTURED», «D3D_SIT_UAV_CONSUME_STRUCTURED»}
+use Rattle.codes.specs.Microsoft.{«D3D_SIT_UAV_RWSTRUCTURED_WITH_COUNTER», «D3D_SIT_RTACCELERATIONSTRUCTURE», «D3D_SIT_UAV_FEEDBACKTEXTURE»}
 use Rattle.codes.specs.declared.input_type.ResourceInputType.{ResourceInputType}
-use Rattle.codes.specs.declared.input_type.ResourceInputType.the-variants.{CBuffer, TBuffer, Texture, Sampler, UavRwTyped, Structured, UavRwStructured, ByteAddress, UavRwByteAddress, UavAppendStructured, UavConsumeStructured, UavRwStructuredWithCounter, RtAccelerationStructure, UavFeedbackTexture}
+use Rattle.codes.specs.declared.input_type.ResourceInputType.the-variants.{CBuffer, TBuffer, Texture, Sampler, UavRwTyped, Structured}
+use Rattle.codes.specs.declared.input_type.ResourceInputType.the-variants.{UavRwStructured, ByteAddress, UavRwByteAddress, UavAppendStructured}
+use Rattle.codes.specs.declared.input_type.ResourceInputType.the-variants.{UavConsumeStructured, UavRwStructuredWithCounter}
+use Rattle.codes.specs.declared.input_type.ResourceInputType.the-variants.{RtAccelerationStructure, UavFeedbackTexture}
 use Rattle.codes.specs.declared.input_type.InputTypeCode.{InputTypeCode}
 use Rattle.codes.specs.declared.input_type.InputTypeCode.the-variants.{Known, Unknown}
 

@@ -4,10 +4,14 @@ use mathlib.Core.List.{[], _∷_, map}
 use mathlib.Core.Option.{Option, none, some}
 use Prim.Native.Nat.{ℕ}
 use Rattle.codes.specs.Table.{Table}
-use Rattle.codes.specs.Microsoft.{«D3D_SHADER_VARIABLE_CLASS», «D3D_SVC_SCALAR», «D3D_SVC_VECTOR», «D3D_SVC_MATRIX_ROWS», «D3D_SVC_MATRIX_COLUMNS», «D3D_SVC_OBJECT», «D3D_SVC_STRUCT», «D3D_SVC_INTERFACE_CLASS», «D3D_SVC_INTERFACE_POINTER», variableClassNumber}
-use Rattle.codes.specs.Microsoft.{«D3D_SHADER_VARIABLE_TYPE», «D3D_SVT_BOOL», «D3D_SVT_INT», «D3D_SVT_FLOAT», «D3D_SVT_UINT», «D3D_SVT_DOUBLE», variableTypeNumber}
+use Rattle.codes.specs.Microsoft.{«D3D_SHADER_VARIABLE_CLASS», «D3D_SVC_SCALAR», «D3D_SVC_VECTOR», «D3D_SVC_MATRIX_ROWS»}
+use Rattle.codes.specs.Microsoft.{«D3D_SVC_MATRIX_COLUMNS», «D3D_SVC_OBJECT», «D3D_SVC_STRUCT», «D3D_SVC_INTERFACE_CLASS»}
+use Rattle.codes.specs.Microsoft.{«D3D_SVC_INTERFACE_POINTER», variableClassNumber}
+use Rattle.codes.specs.Microsoft.{«D3D_SHADER_VARIABLE_TYPE», «D3D_SVT_BOOL», «D3D_SVT_INT», «D3D_SVT_FLOAT», «D3D_SVT_UINT», «D3D_SVT_DOUBLE»}
+use Rattle.codes.specs.Microsoft.{variableTypeNumber}
 use Rattle.codes.specs.declared.variable.VariableClass.{VariableClass}
-use Rattle.codes.specs.declared.variable.VariableClass.the-variants.{Scalar, Vector, MatrixRows, MatrixColumns, Object, Struct, InterfaceClass, InterfacePointer}
+use Rattle.codes.specs.declared.variable.VariableClass.the-variants.{Scalar, Vector, MatrixRows, MatrixColumns, Object, Struct, InterfaceClass}
+use Rattle.codes.specs.declared.variable.VariableClass.the-variants.{InterfacePointer}
 use Rattle.codes.specs.declared.variable.VariableClassCode.{VariableClassCode}
 use Rattle.codes.specs.declared.variable.VariableClassCode.the-variants.{Known as KnownClass, Unknown as NoClass}
 use Rattle.codes.specs.declared.variable.BaseType.{BaseType}

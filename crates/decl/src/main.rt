@@ -1,10 +1,10 @@
 // Reads a chunk from standard input and prints the declaration of each variable, a line each, in walk order (document 01, "Spelling and listing").
-use emit::Written;
 use libc::STDIN_FILENO;
-use reader::Parsed;
+use read::Parsed;
 use reflection::ResourceDef;
 use reflection::Text;
 use reflection::TypeDesc;
+use text_output::Written;
 
 // The declaration of a variable with that type and name, or why it has none. A line is made in `line`.
 fn declaration_line(
@@ -18,11 +18,11 @@ fn declaration_line(
     let written = spelling::declaration(chunk, chunk, t, name, line);
     match written {
         Written::Refused(refusal) => {
-            output::put_refused(out, used, refusal.number);
+            stdout::put_refused(out, used, refusal.number);
         }
         Written::Wrote(n) => {
-            output::put_bytes(out, used, words::part(line, 0, n));
-            output::put_byte(out, used, b'\n');
+            stdout::put_bytes(out, used, words::part(line, 0, n));
+            stdout::put_byte(out, used, b'\n');
         }
     }
 }
@@ -33,7 +33,7 @@ fn node_after(types: &[u32], root: usize, type_count: u32) -> usize {
     let mut to_come: usize = 1;
     let mut next = root;
     while 0 < to_come && next < end {
-        let node = reflection::type_at(types, next);
+        let node = tables::type_at(types, next);
         to_come = to_come - 1 + node.member_count as usize;
         next += 1;
     }
@@ -53,8 +53,8 @@ fn declaration_lines(
     let mut root: usize = 0;
     let mut i: usize = 0;
     while i < def.variable_count as usize {
-        let v = reflection::variable_at(variables, i);
-        let t = reflection::type_at(types, root);
+        let v = tables::variable_at(variables, i);
+        let t = tables::type_at(types, root);
         declaration_line(out, used, &mut line, chunk, t, v.name);
         root = node_after(types, root, def.type_count);
         i += 1;
@@ -71,16 +71,16 @@ fn declare(
 ) {
     let mut out = [0u8; 8192];
     let mut used: usize = 0;
-    let parsed = reader::parse_rdef(chunk, bindings, buffers, variables, types);
+    let parsed = read::parse_rdef(chunk, bindings, buffers, variables, types);
     match parsed {
         Parsed::Refused(refusal) => {
-            output::put_refused(&mut out, &mut used, refusal.number);
+            stdout::put_refused(&mut out, &mut used, refusal.number);
         }
         Parsed::Read(def) => {
             declaration_lines(&mut out, &mut used, chunk, def, variables, types);
         }
     }
-    output::flush(&out, &mut used);
+    stdout::flush(&out, &mut used);
 }
 
 // The tables have document 01's whole room. One byte more than the longest chunk is read, so that a longer one is seen.

@@ -1,8 +1,8 @@
 // Reads a chunk from standard input and prints each of its bindings as a listed line (document 01, "Spelling and listing").
-use emit::Written;
 use libc::STDIN_FILENO;
-use reader::Parsed;
+use read::Parsed;
 use reflection::ResourceBinding;
+use text_output::Written;
 
 // The line of a binding, or why it has none. A line is made in `line`.
 fn binding_line(
@@ -15,11 +15,11 @@ fn binding_line(
     let written = listing::list_binding(chunk, chunk, b, line);
     match written {
         Written::Refused(refusal) => {
-            output::put_refused(out, used, refusal.number);
+            stdout::put_refused(out, used, refusal.number);
         }
         Written::Wrote(n) => {
-            output::put_bytes(out, used, words::part(line, 0, n));
-            output::put_byte(out, used, b'\n');
+            stdout::put_bytes(out, used, words::part(line, 0, n));
+            stdout::put_byte(out, used, b'\n');
         }
     }
 }
@@ -35,13 +35,7 @@ fn binding_lines(
     let mut line = [0u8; reflection::CHUNK_LIMIT];
     let mut i: usize = 0;
     while i < count {
-        binding_line(
-            out,
-            used,
-            &mut line,
-            chunk,
-            reflection::binding_at(bindings, i),
-        );
+        binding_line(out, used, &mut line, chunk, tables::binding_at(bindings, i));
         i += 1;
     }
 }
@@ -56,10 +50,10 @@ fn list(
 ) {
     let mut out = [0u8; 8192];
     let mut used: usize = 0;
-    let parsed = reader::parse_rdef(chunk, bindings, buffers, variables, types);
+    let parsed = read::parse_rdef(chunk, bindings, buffers, variables, types);
     match parsed {
         Parsed::Refused(refusal) => {
-            output::put_refused(&mut out, &mut used, refusal.number);
+            stdout::put_refused(&mut out, &mut used, refusal.number);
         }
         Parsed::Read(def) => {
             binding_lines(
@@ -71,7 +65,7 @@ fn list(
             );
         }
     }
-    output::flush(&out, &mut used);
+    stdout::flush(&out, &mut used);
 }
 
 // The tables have document 01's whole room. One byte more than the longest chunk is read, so that a longer one is seen.

@@ -8,10 +8,11 @@ use borrow.Author.Tests.{eq-eqb, ne-eqb}
 use lib.ListN.{length}
 use Rattle.words.specs.Splice.{Put}
 use Rattle.words.proofs.Splice.{put-then}
-use Rattle.codes.specs.Microsoft.{«D3D_SIF_USERPACKED», «D3D_SIF_COMPARISON_SAMPLER», «D3D_SIF_TEXTURE_COMPONENT_0», «D3D_SIF_TEXTURE_COMPONENT_1», «D3D_SIF_UNUSED»}
-use Rattle.codes.specs.Flags.{flag}
-use Rattle.emit.specs.Digits.{hex}
-use Rattle.emit.specs.Ascii.{ascii}
+use Rattle.codes.specs.Microsoft.{«D3D_SIF_USERPACKED», «D3D_SIF_COMPARISON_SAMPLER», «D3D_SIF_TEXTURE_COMPONENT_0», «D3D_SIF_TEXTURE_COMPONENT_1»}
+use Rattle.codes.specs.Microsoft.{«D3D_SIF_UNUSED»}
+use Rattle.flags.specs.Flags.{flag}
+use Rattle.text_output.specs.Digits.{hex}
+use Rattle.text_output.specs.Ascii.{ascii}
 use Rattle.listing.specs.Names.{flagNames}
 use Rattle.listing.specs.Listing.{joinedBy, setNames, orHex, flagsPart}
 
@@ -53,7 +54,8 @@ from-left before (row ∷ rows) w =
 
 pub five-joined : (w : ℕ) {a b c d e : Bool} → a ≡ flag «D3D_SIF_USERPACKED» w → b ≡ flag «D3D_SIF_COMPARISON_SAMPLER» w
     → c ≡ flag «D3D_SIF_TEXTURE_COMPONENT_0» w → d ≡ flag «D3D_SIF_TEXTURE_COMPONENT_1» w → e ≡ flag «D3D_SIF_UNUSED» w
-    → joinedWhere (joinedWhere (joinedWhere (joinedWhere (joinedWhere [] a (ascii "userPacked")) b (ascii "comparisonSampler")) c (ascii "texComp0")) d (ascii "texComp1")) e (ascii "unused")
+    → joinedWhere (joinedWhere (joinedWhere (joinedWhere (joinedWhere [] a (ascii "userPacked")) b (ascii "comparisonSampler")) c (ascii "texComp0"))
+    d (ascii "texComp1")) e (ascii "unused")
     ≡ setNames flagNames w
 five-joined w pa pb pc pd pe = rw (pa, pb, pc, pd, pe) (from-left [] flagNames w)
 

@@ -8,7 +8,7 @@ use Rattle.reflection.specs.declared.ResourceBinding.{ResourceBinding}
 use Rattle.reflection.specs.Outcome.{ok, refused, because}
 use Rattle.reflection.specs.Refusals.{notReadable}
 use Rattle.reflection.specs.Texts.{textBytes}
-use Rattle.emit.specs.Printable.{printable}
+use Rattle.text_output.specs.Printable.{printable}
 use Rattle.listing.specs.Listing.{padTo, columns, listed}
 
 module _ (chunk edits : List ℕ) (b : ResourceBinding) {prints : Bool} (is : prints ≡ printable chunk edits (b .name)) where
@@ -16,6 +16,7 @@ module _ (chunk edits : List ℕ) (b : ResourceBinding) {prints : Bool} (is : pr
   unfolding listed
   name-unprintable t = rw (listed, ← is, not-true prints t)
 
-  pub line-listed : not prints ≡ false → {name : List ℕ} → name ≡ textBytes chunk edits (b .name) → listed chunk edits b ≡ ok (padTo 20 name ++ (32 ∷ columns b))
+  pub line-listed : not prints ≡ false → {name : List ℕ} → name ≡ textBytes chunk edits (b .name)
+      → listed chunk edits b ≡ ok (padTo 20 name ++ (32 ∷ columns b))
   unfolding listed
   line-listed t part = rw (listed, ← is, not-false prints t, part)

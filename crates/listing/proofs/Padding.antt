@@ -10,8 +10,8 @@ use borrow.Author.Tests.{lt-leb}
 use lib.Dec.{leb}
 use lib.ListN.{length, getD, take, drop, replicate, length-append, length-replicate, drop-of-length-le}
 use lib.Seq.{drop-cons}
-use Rattle.emit.specs.Digits.{digitsBefore, decimalDigit, decimal}
-use Rattle.emit.proofs.Digits.{digits-last, digits-more}
+use Rattle.text_output.specs.Digits.{digitsBefore, decimalDigit, decimal}
+use Rattle.text_output.proofs.Digits.{digits-last, digits-more}
 use Rattle.listing.specs.Listing.{scalars, padTo}
 
 -- a byte that continues a sequence does not count, any other does

@@ -4,14 +4,14 @@ use mathlib.Core.List.{List, [], _∷_, _++_}
 use Prim.Native.Nat.{ℕ, suc, _+_, _-_, _/_, _%_}
 use lib.Dec.{eqb, leb}
 use lib.ListN.{replicate}
-use Rattle.codes.specs.Flags.{flag}
+use Rattle.flags.specs.Flags.{flag}
 use Rattle.reflection.specs.declared.ResourceBinding.{ResourceBinding}
 use Rattle.reflection.specs.Outcome.{Outcome, ok, refused, because}
 use Rattle.reflection.specs.Refusals.{notReadable}
 use Rattle.reflection.specs.Texts.{textBytes}
-use Rattle.emit.specs.Digits.{decimal, hex}
-use Rattle.emit.specs.Ascii.{ascii}
-use Rattle.emit.specs.Printable.{printable}
+use Rattle.text_output.specs.Digits.{decimal, hex}
+use Rattle.text_output.specs.Ascii.{ascii}
+use Rattle.text_output.specs.Printable.{printable}
 use Rattle.listing.specs.Names.{listedInputType, listedDimension, flagNames}
 
 -- How many Unicode scalar values well-formed UTF-8 has: as many as bytes that do not continue a sequence (80..BF).

@@ -6,8 +6,8 @@ ghost use Prim.Native.Nat.{_+_, _-_, _≤_};
 ghost use lib.Dec.{leb};
 ghost use lib.ListN.{length, replicate};
 ghost use Rattle.words.specs.Splice.{Put};
-ghost use Rattle.emit.specs.Cursor.{farthest};
-ghost use Rattle.emit.specs.Digits.{decimal};
+ghost use Rattle.text_output.specs.Cursor.{farthest};
+ghost use Rattle.text_output.specs.Digits.{decimal};
 ghost use Rattle.listing.specs.Listing.{scalars, padTo};
 
 // Whether a byte continues a sequence of UTF-8.
@@ -42,7 +42,7 @@ fn pad(out: &mut [u8], at: usize, used: usize, width: usize) -> usize
     }
     let spaces = [b' '; 20];
     let n = width - used;
-    emit::put_bytes(out, at, &spaces[..n])
+    text_output::put_bytes(out, at, &spaces[..n])
 }
 
 // Writes a text, filled up.
@@ -51,7 +51,7 @@ pub(crate) fn put_padded(out: &mut [u8], at: usize, bytes: &[u8], width: usize) 
     ensures text { λ r. ⌜ Put (now (out .entry)) at (padTo width (now (bytes .entry))) (now (out .exit)) r ⌝ }
     ensures near { λ r. ⌜ r ≤ at + length (now (bytes .entry)) + width ⌝ }
 {
-    let end = emit::put_bytes(out, at, bytes);
+    let end = text_output::put_bytes(out, at, bytes);
     pad(out, end, scalar_count(bytes), width)
 }
 
@@ -60,7 +60,7 @@ pub(crate) fn put_text(out: &mut [u8], at: usize, bytes: &[u8], width: usize) ->
     requires { ⌜ (at + 1 + length (now bytes) ≤ farthest) × (width ≤ 20) ⌝ }
     ensures { λ r. ⌜ Put (now (out .entry)) at (32 ∷ padTo width (now (bytes .entry))) (now (out .exit)) r ⌝ }
 {
-    let start = emit::put_byte(out, at, b' ');
+    let start = text_output::put_byte(out, at, b' ');
     put_padded(out, start, bytes, width)
 }
 
@@ -70,7 +70,7 @@ pub(crate) fn put_number(out: &mut [u8], at: usize, n: u32, width: usize) -> usi
     ensures text { λ r. ⌜ Put (now (out .entry)) at (32 ∷ padTo width (decimal n)) (now (out .exit)) r ⌝ }
     ensures near { λ r. ⌜ r ≤ at + 11 + width ⌝ }
 {
-    let start = emit::put_byte(out, at, b' ');
-    let end = emit::put_decimal(out, start, n);
+    let start = text_output::put_byte(out, at, b' ');
+    let end = text_output::put_decimal(out, start, n);
     pad(out, end, end - start, width)
 }

@@ -4,25 +4,26 @@ ghost use mathlib.Core.List.{List, []};
 ghost use Prim.Native.Nat.{ℕ, _+_, _≤_, _<_};
 ghost use lib.ListN.{length};
 ghost use Rattle.words.specs.Splice.{Put};
-ghost use Rattle.emit.specs.Cursor.{farthest};
+ghost use Rattle.text_output.specs.Cursor.{farthest};
 ghost use Rattle.listing.specs.Names.{flagNames};
 ghost use Rattle.listing.specs.Listing.{joinedBy, setNames, flagsPart};
-use codes::BindingFlags;
+use flags::BindingFlags;
 
 // Writes a name where its flag is set, joined by `;` to the names that stand from `start` on.
 fn put_flag(out: &mut [u8], start: usize, at: usize, set: bool, name: &[u8]) -> usize
     requires { ⌜ (at + 1 ≤ farthest) × (0 < length (now name)) ⌝ }
-    ensures names { λ r. ⌜ ((lent before : List ℕ) → Put lent start before (now (out .entry)) at → Put lent start (joinedBy 59 before (cond set (now (name .entry)) [])) (now (out .exit)) r) ⌝ }
+    ensures names { λ r. ⌜ ((lent before : List ℕ) → Put lent start before (now (out .entry)) at
+        → Put lent start (joinedBy 59 before (cond set (now (name .entry)) [])) (now (out .exit)) r) ⌝ }
     ensures near { λ r. ⌜ r ≤ at + 1 + length (now (name .entry)) ⌝ }
 {
     if !set {
         return at;
     }
     if at == start {
-        return emit::put_bytes(out, at, name);
+        return text_output::put_bytes(out, at, name);
     }
-    let next = emit::put_byte(out, at, b';');
-    emit::put_bytes(out, next, name)
+    let next = text_output::put_byte(out, at, b';');
+    text_output::put_bytes(out, next, name)
 }
 
 // Writes the names of the flags that are set, joined by `;`.
@@ -51,11 +52,11 @@ pub(crate) fn put_flags(out: &mut [u8], at: usize, flags: BindingFlags) -> usize
     if flags.0 == 0 {
         return at;
     }
-    let start = emit::put_byte(out, at, b' ');
+    let start = text_output::put_byte(out, at, b' ');
     let end = put_set_names(out, start, flags);
     if end != start {
         return end;
     }
-    let digits = emit::put_bytes(out, end, b"0x");
-    emit::put_hex(out, digits, flags.0)
+    let digits = text_output::put_bytes(out, end, b"0x");
+    text_output::put_hex(out, digits, flags.0)
 }

@@ -4,12 +4,12 @@ ghost use mathlib.Core.List.{_∷_, _++_};
 ghost use Prim.Native.Nat.{_+_, _≤_};
 ghost use lib.ListN.{length};
 ghost use Rattle.words.specs.Splice.{Put};
-ghost use Rattle.emit.specs.Written.{fitting, writtenOf, outputOf};
-ghost use Rattle.emit.specs.Cursor.{farthest};
+ghost use Rattle.text_output.specs.Written.{Answers};
+ghost use Rattle.text_output.specs.Cursor.{farthest};
 ghost use Rattle.listing.specs.Listing.{padTo, columns, listed, componentCount};
-use codes::BindingFlags;
-use emit::Written;
+use flags::BindingFlags;
 use reflection::ResourceBinding;
+use text_output::Written;
 
 mod code_names;
 mod column;
@@ -43,15 +43,14 @@ pub fn list_binding<'a>(
     b: ResourceBinding,
     out: &mut [u8],
 ) -> Written
-    ensures answer { λ r. ⌜ r ≡ writtenOf (fitting (length (now (out .entry))) (listed (now (chunk .entry)) (now (edits .entry)) b)) ⌝ }
-    ensures out { λ _. ⌜ now (out .exit) ≡ outputOf (fitting (length (now (out .entry))) (listed (now (chunk .entry)) (now (edits .entry)) b)) (now (out .entry)) ⌝ }
+    ensures { λ r. ⌜ Answers (listed (now (chunk .entry)) (now (edits .entry)) b) (now (out .entry)) (now (out .exit)) r ⌝ }
 {
     let text = b.name;
-    if !emit::printable(chunk, edits, text) {
-        return emit::refuse(out, reflection::NOT_READABLE);
+    if !text_output::printable(chunk, edits, text) {
+        return text_output::refuse(out, reflection::NOT_READABLE);
     }
     let end = put_line(out, reflection::name_part(chunk, edits, text), b);
-    emit::finish(out, end)
+    text_output::finish(out, end)
 }
 
 // How many components a texture returns: 1 plus the number in flag bits 2 and 3.

@@ -11,10 +11,10 @@ use Rattle.reflection.specs.declared.Refusal.{Refusal}
 use Rattle.reflection.specs.declared.ResourceDef.{ResourceDef as Header}
 use Rattle.reflection.specs.Outcome.{Outcome, ok, refused}
 use Rattle.reflection.specs.Reflection.{ResourceDef}
-use Rattle.reflection.specs.Tables.{headerOf}
-use Rattle.reader.specs.declared.Parsed.{Parsed}
-use Rattle.reader.specs.declared.Parsed.the-variants.{Read, Refused}
-use Rattle.reader.specs.Parsed.{parsedOf}
+use Rattle.tables.specs.Tables.{headerOf}
+use Rattle.read.specs.declared.Parsed.{Parsed}
+use Rattle.read.specs.declared.Parsed.the-variants.{Read, Refused}
+use Rattle.read.specs.Parsed.{parsedOf}
 use Rattle.nontrefalcu.specs.Exports.{numberOf, resultTable, headerWordsInTable, headerTable}
 
 module _ {A : Type 0} {out : Outcome A} where

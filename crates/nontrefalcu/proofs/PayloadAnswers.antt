@@ -17,10 +17,10 @@ use Rattle.reflection.specs.Outcome.{Outcome, ok, refused, because}
 use Rattle.reflection.specs.Reflection.{ResourceDef}
 use Rattle.reflection.specs.Contents.{Bytes}
 use Rattle.readable.specs.Readable.{tableContents, readableContents}
-use Rattle.readable.proofs.Bools.{check-was}
-use Rattle.emit.specs.Written.{fitsIn, fitting}
-use Rattle.writing.specs.Canonical.{canonical}
-use Rattle.writing.specs.Payload.{Part, wholeChunk, written, unedited, asPart, payloadOf, payload}
+use Rattle.tables.proofs.Options.{check-was}
+use Rattle.text_output.specs.Written.{fitsIn, fitting}
+use Rattle.write_spec.specs.Canonical.{canonical}
+use Rattle.write_spec.specs.Payload.{Part, wholeChunk, written, unedited, asPart, payloadOf, payload}
 use Rattle.payload.specs.declared.Payload.{Payload}
 use Rattle.payload.specs.declared.Payload.the-variants.{Chunk, Output}
 use Rattle.payload.specs.Answer.{payloadWith, payloadAnswer}
@@ -33,7 +33,8 @@ answer-number chunk (ok wholeChunk) = refl
 answer-number chunk (ok (written bytes)) = refl
 answer-number chunk (refused e) = refl
 
-answer-table : (chunk : Bytes) (out : Outcome Part) (n : ℕ) → resultTable (λ w. w) (payloadOutcome (length chunk) (payloadAnswer out)) n ≡ payloadTable chunk out n
+answer-table : (chunk : Bytes) (out : Outcome Part) (n : ℕ) → resultTable (λ w. w) (payloadOutcome (length chunk) (payloadAnswer out)) n
+    ≡ payloadTable chunk out n
 unfolding payloadAnswer payloadOutcome resultTable payloadWords
 answer-table chunk (ok wholeChunk) n = refl
 answer-table chunk (ok (written bytes)) n = refl
@@ -79,13 +80,15 @@ module _ (chunk edits : Bytes) (h : Header) (bindings buffers variables types : 
       let (chunk-long, edits-long) = and-true (leb (length chunk) chunkLimit) (leb (length edits) chunkLimit) long in
       leb-true (length chunk) chunkLimit chunk-long
 
-  pub payload-fits : (room : ℕ) (enough : Bool) {p : Payload} → p ≡ payloadAnswer (payloadWith enough room chunk (tableContents chunk edits h bindings buffers variables types))
+  pub payload-fits : (room : ℕ) (enough : Bool) {p : Payload} → p ≡ payloadAnswer
+      (payloadWith enough room chunk (tableContents chunk edits h bindings buffers variables types))
       → PayloadFits (length chunk) p
   payload-fits room enough answer = rw answer (fits-in room chunk (tableContents chunk edits h bindings buffers variables types) held-short enough)
 
 -- what `write_payload` and `hand_payload` ensure, for the outcome that was asked for
 module _ {out asked : Outcome Part} (same : out ≡ asked) (chunk : Bytes) (n : ℕ) {p : Payload} {r : ℕ} {words : List ℕ} where
-  pub handed-payload : p ≡ payloadAnswer out → (r ≡ numberOf (payloadOutcome (length chunk) p)) × (words ≡ resultTable (λ w. w) (payloadOutcome (length chunk) p) n)
+  pub handed-payload : p ≡ payloadAnswer out → (r ≡ numberOf (payloadOutcome (length chunk) p))
+      × (words ≡ resultTable (λ w. w) (payloadOutcome (length chunk) p) n)
       → (r ≡ numberOf asked) × (words ≡ payloadTable chunk asked n)
   handed-payload answer handed =
       let number = ap (λ (q : Payload). numberOf (payloadOutcome (length chunk) q)) answer ∙ answer-number chunk out in

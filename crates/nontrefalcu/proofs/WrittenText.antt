@@ -13,11 +13,12 @@ use Rattle.reflection.specs.Refusals.{noRoom, outputTooSmall}
 use Rattle.reflection.specs.Outcome.{Outcome, ok, refused, because}
 use Rattle.reflection.specs.Reflection.{ResourceDef}
 use Rattle.reflection.specs.Contents.{Bytes}
-use Rattle.emit.specs.declared.Written.{Written}
-use Rattle.emit.specs.declared.Written.the-variants.{Wrote}
-use Rattle.emit.specs.Written.{fitsIn, fitting, writtenOf, outputOf}
-use Rattle.writing.specs.Outcome.{scratchSize, canonicalOr16, write}
+use Rattle.text_output.specs.declared.Written.{Written}
+use Rattle.text_output.specs.declared.Written.the-variants.{Wrote}
+use Rattle.text_output.specs.Written.{fitsIn, fitting, writtenOf, outputOf}
+use Rattle.write_spec.specs.Outcome.{scratchSize, canonicalOr16, write}
 use Rattle.nontrefalcu.specs.Exports.{numberOf, resultTable, oneWord, lengthTable, writtenLength, LengthFits}
+use Rattle.nontrefalcu.specs.Left.{TextLeft}
 
 written-number : (out : Outcome (List ℕ)) → numberOf (writtenLength (writtenOf out)) ≡ numberOf out
 unfolding writtenOf writtenLength numberOf
@@ -57,11 +58,12 @@ module _ {written : Written} where
   wrote-fits fits wrote = rw wrote at fits
 
   -- what the writing function and `hand_length` ensure, for the outcome that was asked for
-  module _ {out asked : Outcome (List ℕ)} (same : out ≡ asked) (lent : List ℕ) (n : ℕ) {r : ℕ} {bytes words : List ℕ} where
+  module _ {out asked : Outcome (List ℕ)} (same : out ≡ asked) (lent old : List ℕ) {r : ℕ} {bytes words : List ℕ} where
     pub handed-out : (written ≡ writtenOf out) × (bytes ≡ outputOf out lent)
-        → (r ≡ numberOf (writtenLength written)) × (words ≡ resultTable oneWord (writtenLength written) n)
-        → (r ≡ numberOf asked) × ((bytes ≡ outputOf asked lent) × (words ≡ lengthTable asked n))
+        → (r ≡ numberOf (writtenLength written)) × (words ≡ resultTable oneWord (writtenLength written) (length old))
+        → TextLeft asked lent bytes old words r
     handed-out wrote handed =
         let number = ap (λ (w : Written). numberOf (writtenLength w)) (wrote .0) ∙ written-number out in
-        let table = ap (λ (w : Written). resultTable oneWord (writtenLength w) n) (wrote .0) ∙ written-table out n in
-        rw (← same) (handed .0 ∙ number, (wrote .1, handed .1 ∙ table))
+        let table = ap (λ (w : Written). resultTable oneWord (writtenLength w) (length old)) (wrote .0) ∙ written-table out (length old) in
+        let left : TextLeft out lent bytes old words r = record { answer = handed .0 ∙ number; out = wrote .1; length = handed .1 ∙ table } in
+        rw (← same) left

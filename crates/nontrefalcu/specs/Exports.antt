@@ -8,18 +8,18 @@ use Rattle.reflection.specs.declared.Text.{Text}
 use Rattle.reflection.specs.declared.ResourceDef.{ResourceDef as Header}
 use Rattle.reflection.specs.Outcome.{Outcome, ok, refused}
 use Rattle.reflection.specs.Reflection.{ResourceDef}
-use Rattle.reflection.specs.Records.{bindingAt, typeAt, variableAt}
-use Rattle.reflection.specs.Tables.{headerOf}
-use Rattle.emit.specs.declared.Written.{Written}
-use Rattle.emit.specs.declared.Written.the-variants.{Wrote, Refused}
-use Rattle.emit.specs.Written.{fitting}
-use Rattle.spelling.specs.declared.TypeSpelling.{TypeSpelling}
-use Rattle.spelling.specs.declared.SpelledType.{SpelledType}
-use Rattle.spelling.specs.declared.SpelledType.the-variants.{Understood, Refused as NotUnderstood}
+use Rattle.tables.specs.Records.{bindingAt, typeAt, variableAt}
+use Rattle.tables.specs.Tables.{headerOf}
+use Rattle.text_output.specs.declared.Written.{Written}
+use Rattle.text_output.specs.declared.Written.the-variants.{Wrote, Refused}
+use Rattle.text_output.specs.Written.{fitting}
+use Rattle.spelling_parse.specs.declared.TypeSpelling.{TypeSpelling}
+use Rattle.spelling_parse.specs.declared.SpelledType.{SpelledType}
+use Rattle.spelling_parse.specs.declared.SpelledType.the-variants.{Understood, Refused as NotUnderstood}
 use Rattle.spelling.specs.Spelling.{typeName, declaration}
-use Rattle.spelling.specs.Grammar.{parseType, spelledType}
+use Rattle.spelling_parse.specs.Grammar.{parseType, spelledType}
 use Rattle.listing.specs.Listing.{listed}
-use Rattle.refusals.specs.Sentences.{sentence}
+use Rattle.refusal_text.specs.Sentences.{sentence}
 
 -- 0 for a value, else the refusal's number.
 unfoldable pub numberOf : {A : Type 0} → Outcome A → ℕ

@@ -1,3 +1,4 @@
 pub mod Exports
 pub mod PayloadWords
+pub mod Left
 pub mod Writing

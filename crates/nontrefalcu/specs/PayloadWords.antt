@@ -5,7 +5,7 @@ use lib.ListN.{length}
 use Rattle.reflection.specs.Limits.{chunkLimit}
 use Rattle.reflection.specs.Outcome.{Outcome, ok, refused}
 use Rattle.readable.specs.Readable.{tableContents}
-use Rattle.writing.specs.Payload.{Part, wholeChunk, written}
+use Rattle.write_spec.specs.Payload.{Part, wholeChunk, written}
 use Rattle.payload.specs.declared.Payload.{Payload}
 use Rattle.payload.specs.declared.Payload.the-variants.{Chunk, Output, Refused}
 use Rattle.payload.specs.Answer.{roomEnough, payloadWith}

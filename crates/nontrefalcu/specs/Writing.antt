@@ -4,7 +4,7 @@ use Prim.Native.Nat.{ℕ}
 use lib.ListN.{length}
 use Rattle.reflection.specs.Outcome.{Outcome}
 use Rattle.readable.specs.Readable.{tableContents}
-use Rattle.writing.specs.Outcome.{write}
+use Rattle.write_spec.specs.Outcome.{write}
 use Rattle.nontrefalcu.specs.Exports.{headerAt}
 
 -- The canonical form of the reflection, for scratch and an output as long as these.

@@ -2,7 +2,7 @@
 ghost use mathlib.Core.Path.{_≡_};
 ghost use lib.ListN.{length as size};
 ghost use Rattle.nontrefalcu.specs.Exports.{numberOf, resultTable, oneWord, writtenLength, LengthFits};
-use emit::Written;
+use text_output::Written;
 
 // 0, and the written length in `length`; or the refusal's number, and zeros.
 pub(crate) fn hand_length(written: Written, length: &mut [u32]) -> u32

@@ -1,8 +1,6 @@
 // The listing of bindings.
-ghost use mathlib.Core.Path.{_≡_};
-ghost use lib.ListN.{length as size};
-ghost use Rattle.emit.specs.Written.{outputOf};
-ghost use Rattle.nontrefalcu.specs.Exports.{numberOf, lengthTable, listedInto};
+ghost use Rattle.nontrefalcu.specs.Exports.{listedInto};
+ghost use Rattle.nontrefalcu.specs.Left.{TextLeft};
 use crate::answer::hand_length;
 
 // `listing::list_binding` of the binding that is record 0 of `binding_words`: 0, and the written length in `length`; or the refusal's number, and zeros
@@ -15,11 +13,10 @@ pub extern "C" fn nontrefalcu_list_binding<'a>(
     out: &mut [u8],
     length: &mut [u32],
 ) -> u32
-    ensures answer { λ r. ⌜ r ≡ numberOf (listedInto (now (chunk .entry)) (now (edits .entry)) (now («binding_words» .entry)) (now (out .entry))) ⌝ }
-    ensures out { λ _. ⌜ now (out .exit) ≡ outputOf (listedInto (now (chunk .entry)) (now (edits .entry)) (now («binding_words» .entry)) (now (out .entry))) (now (out .entry)) ⌝ }
-    ensures length { λ _. ⌜ now (length .exit) ≡ lengthTable (listedInto (now (chunk .entry)) (now (edits .entry)) (now («binding_words» .entry)) (now (out .entry))) (size (now (length .entry))) ⌝ }
+    ensures { λ r. ⌜ TextLeft (listedInto (now (chunk .entry)) (now (edits .entry)) (now («binding_words» .entry)) (now (out .entry)))
+        (now (out .entry)) (now (out .exit)) (now (length .entry)) (now (length .exit)) r ⌝ }
 {
-    let b = reflection::binding_at(binding_words, 0);
+    let b = tables::binding_at(binding_words, 0);
     let written = listing::list_binding(chunk, edits, b, out);
     hand_length(written, length)
 }

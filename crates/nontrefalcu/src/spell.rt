@@ -1,10 +1,10 @@
 // The spelling of types, written and read.
 ghost use mathlib.Core.Path.{_≡_};
 ghost use lib.ListN.{length as size};
-ghost use Rattle.emit.specs.Written.{outputOf};
-ghost use Rattle.nontrefalcu.specs.Exports.{numberOf, lengthTable, spellingTable, typeNameInto, declarationInto, typeRead};
+ghost use Rattle.nontrefalcu.specs.Exports.{numberOf, spellingTable, typeNameInto, declarationInto, typeRead};
+ghost use Rattle.nontrefalcu.specs.Left.{TextLeft};
 use crate::answer::hand_length;
-use spelling::SpelledType;
+use spelling_parse::SpelledType;
 
 // `spelling::hlsl_type_name` of the type that is record 0 of `type_words`: 0, and the written length in `length`; or the refusal's number, and zeros
 // everywhere.
@@ -16,11 +16,10 @@ pub extern "C" fn nontrefalcu_type_name<'a>(
     out: &mut [u8],
     length: &mut [u32],
 ) -> u32
-    ensures answer { λ r. ⌜ r ≡ numberOf (typeNameInto (now (chunk .entry)) (now (edits .entry)) (now («type_words» .entry)) (now (out .entry))) ⌝ }
-    ensures out { λ _. ⌜ now (out .exit) ≡ outputOf (typeNameInto (now (chunk .entry)) (now (edits .entry)) (now («type_words» .entry)) (now (out .entry))) (now (out .entry)) ⌝ }
-    ensures length { λ _. ⌜ now (length .exit) ≡ lengthTable (typeNameInto (now (chunk .entry)) (now (edits .entry)) (now («type_words» .entry)) (now (out .entry))) (size (now (length .entry))) ⌝ }
+    ensures { λ r. ⌜ TextLeft (typeNameInto (now (chunk .entry)) (now (edits .entry)) (now («type_words» .entry)) (now (out .entry)))
+        (now (out .entry)) (now (out .exit)) (now (length .entry)) (now (length .exit)) r ⌝ }
 {
-    let t = reflection::type_at(type_words, 0);
+    let t = tables::type_at(type_words, 0);
     let written = spelling::hlsl_type_name(chunk, edits, t, out);
     hand_length(written, length)
 }
@@ -35,25 +34,25 @@ pub extern "C" fn nontrefalcu_declaration<'a>(
     out: &mut [u8],
     length: &mut [u32],
 ) -> u32
-    ensures answer { λ r. ⌜ r ≡ numberOf (declarationInto (now (chunk .entry)) (now (edits .entry)) (now («type_words» .entry)) (now («variable_words» .entry)) (now (out .entry))) ⌝ }
-    ensures out { λ _. ⌜ now (out .exit) ≡ outputOf (declarationInto (now (chunk .entry)) (now (edits .entry)) (now («type_words» .entry)) (now («variable_words» .entry)) (now (out .entry))) (now (out .entry)) ⌝ }
-    ensures length { λ _. ⌜ now (length .exit) ≡ lengthTable (declarationInto (now (chunk .entry)) (now (edits .entry)) (now («type_words» .entry)) (now («variable_words» .entry)) (now (out .entry))) (size (now (length .entry))) ⌝ }
+    ensures { λ r. ⌜ TextLeft (declarationInto (now (chunk .entry)) (now (edits .entry)) (now («type_words» .entry)) (now («variable_words» .entry))
+        (now (out .entry)))
+        (now (out .entry)) (now (out .exit)) (now (length .entry)) (now (length .exit)) r ⌝ }
 {
-    let t = reflection::type_at(type_words, 0);
-    let variable = reflection::variable_at(variable_words, 0);
+    let t = tables::type_at(type_words, 0);
+    let variable = tables::variable_at(variable_words, 0);
     let name = variable.name;
     let written = spelling::declaration(chunk, edits, t, name, out);
     hand_length(written, length)
 }
 
-// `spelling::parse_hlsl_type`: 0, and class, base, rows, columns and elements in `numbers`; or 18, and zeros.
+// `spelling_parse::parse_hlsl_type`: 0, and class, base, rows, columns and elements in `numbers`; or 18, and zeros.
 #[no_mangle]
 pub extern "C" fn nontrefalcu_parse_type(text: &[u8], numbers: &mut [u32]) -> u32
     ensures answer { λ r. ⌜ r ≡ numberOf (typeRead (now (text .entry))) ⌝ }
     ensures numbers { λ _. ⌜ now (numbers .exit) ≡ spellingTable (typeRead (now (text .entry))) (size (now (numbers .entry))) ⌝ }
 {
     words::clear(numbers);
-    let spelled = spelling::parse_hlsl_type(text);
+    let spelled = spelling_parse::parse_hlsl_type(text);
     match spelled {
         SpelledType::Refused(refusal) => refusal.number,
         SpelledType::Understood(s) => {

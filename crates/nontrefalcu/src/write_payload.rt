@@ -1,9 +1,9 @@
 // The payload.
 ghost use mathlib.Core.Path.{_≡_};
 ghost use lib.ListN.{length as size, replicate};
-ghost use Rattle.payload.specs.Answer.{payloadOutput};
 ghost use Rattle.nontrefalcu.specs.Exports.{numberOf, resultTable};
-ghost use Rattle.nontrefalcu.specs.PayloadWords.{PayloadFits, payloadOutcome, payloadInto, payloadTable};
+ghost use Rattle.nontrefalcu.specs.PayloadWords.{PayloadFits, payloadOutcome, payloadInto};
+ghost use Rattle.nontrefalcu.specs.Left.{PayloadLeft};
 use crate::header::header_at;
 use payload::Payload;
 
@@ -48,12 +48,12 @@ pub extern "C" fn nontrefalcu_write_payload<'a>(
     out: &mut [u8],
     answer: &mut [u32],
 ) -> u32
-    ensures number { λ r. ⌜ r ≡ numberOf (payloadInto (now (chunk .entry)) (now (edits .entry)) (now (header .entry)) (now (bindings .entry)) (now (buffers .entry)) (now (variables .entry)) (now (types .entry))
-        (now («found_bindings» .entry)) (now («found_buffers» .entry)) (now («found_variables» .entry)) (now («found_types» .entry)) (now (scratch .entry)) (now (out .entry))) ⌝ }
-    ensures out { λ _. ⌜ now (out .exit) ≡ payloadOutput (payloadInto (now (chunk .entry)) (now (edits .entry)) (now (header .entry)) (now (bindings .entry)) (now (buffers .entry)) (now (variables .entry)) (now (types .entry))
-        (now («found_bindings» .entry)) (now («found_buffers» .entry)) (now («found_variables» .entry)) (now («found_types» .entry)) (now (scratch .entry)) (now (out .entry))) (now (out .entry)) ⌝ }
-    ensures answer { λ _. ⌜ now (answer .exit) ≡ payloadTable (now (chunk .entry)) (payloadInto (now (chunk .entry)) (now (edits .entry)) (now (header .entry)) (now (bindings .entry)) (now (buffers .entry)) (now (variables .entry)) (now (types .entry))
-        (now («found_bindings» .entry)) (now («found_buffers» .entry)) (now («found_variables» .entry)) (now («found_types» .entry)) (now (scratch .entry)) (now (out .entry))) (size (now (answer .entry))) ⌝ }
+    ensures payload { λ r. ⌜ PayloadLeft (now (chunk .entry))
+        (payloadInto (now (chunk .entry)) (now (edits .entry)) (now (header .entry))
+        (now (bindings .entry)) (now (buffers .entry)) (now (variables .entry)) (now (types .entry))
+        (now («found_bindings» .entry)) (now («found_buffers» .entry)) (now («found_variables» .entry)) (now («found_types» .entry))
+        (now (scratch .entry)) (now (out .entry)))
+        (now (out .entry)) (now (out .exit)) (now (answer .entry)) (now (answer .exit)) r ⌝ }
     ensures bindings { λ _. ⌜ now («found_bindings» .exit) ≡ replicate (size (now («found_bindings» .entry))) 0 ⌝ }
     ensures buffers { λ _. ⌜ now («found_buffers» .exit) ≡ replicate (size (now («found_buffers» .entry))) 0 ⌝ }
     ensures variables { λ _. ⌜ now («found_variables» .exit) ≡ replicate (size (now («found_variables» .entry))) 0 ⌝ }

@@ -14,9 +14,9 @@ use Rattle.reflection.specs.Outcome.{Outcome, ok, refused, because}
 use Rattle.reflection.specs.Reflection.{ResourceDef}
 use Rattle.reflection.specs.Contents.{Bytes}
 use Rattle.readable.specs.Readable.{isReadable}
-use Rattle.emit.specs.Written.{writtenOf, outputOf}
-use Rattle.writing.specs.Outcome.{scratchSize, canonicalOr16, write}
-use Rattle.writing.specs.Payload.{wholeChunk, written, asPart, payloadOf, payload}
+use Rattle.text_output.specs.Written.{writtenOf, outputOf}
+use Rattle.write_spec.specs.Outcome.{scratchSize, canonicalOr16, write}
+use Rattle.write_spec.specs.Payload.{wholeChunk, written, asPart, payloadOf, payload}
 use Rattle.payload.specs.Answer.{roomEnough, payloadWith, payloadAnswer, payloadOutput, uneditedHeld, writtenAnswer}
 
 -- What the test of the room says.
@@ -47,18 +47,20 @@ module _ (enough : Bool) (room : ℕ) (chunk : Bytes) where
   unfolding payloadWith
   no-room r e = rw e
 
-  pub not-readable : (r : Option (ResourceDef Bytes Bytes)) → enough ≡ true → isReadable r ≡ false → payloadWith enough room chunk r ≡ refused (because notReadable)
+  pub not-readable : (r : Option (ResourceDef Bytes Bytes)) → enough ≡ true → isReadable r ≡ false
+      → payloadWith enough room chunk r ≡ refused (because notReadable)
   unfolding payloadWith payload payloadOf
   not-readable none e h = rw e
   not-readable (some r) e h = rw (e, h)
 
-  pub the-chunk : (r : Option (ResourceDef Bytes Bytes)) → enough ≡ true → isReadable r ≡ true → uneditedHeld chunk r ≡ true → payloadWith enough room chunk r ≡ ok wholeChunk
+  pub the-chunk : (r : Option (ResourceDef Bytes Bytes)) → enough ≡ true → isReadable r ≡ true → uneditedHeld chunk r ≡ true
+      → payloadWith enough room chunk r ≡ ok wholeChunk
   unfolding payloadWith payload payloadOf uneditedHeld
   the-chunk none e h u = absurd (let apart : _≡_ {A = ℕ} 0 1 = cc in omega arith)
   the-chunk (some r) e h u = rw (e, h, u)
 
-  pub the-output : (scratch : ℕ) (r : Option (ResourceDef Bytes Bytes)) → scratchSize ≤ scratch → enough ≡ true → isReadable r ≡ true → uneditedHeld chunk r ≡ false
-      → payloadWith enough room chunk r ≡ asPart (write scratch room r)
+  pub the-output : (scratch : ℕ) (r : Option (ResourceDef Bytes Bytes)) → scratchSize ≤ scratch → enough ≡ true → isReadable r ≡ true
+      → uneditedHeld chunk r ≡ false → payloadWith enough room chunk r ≡ asPart (write scratch room r)
   unfolding payloadWith payload payloadOf uneditedHeld write canonicalOr16
   the-output scratch none long e h u = absurd (let apart : _≡_ {A = ℕ} 0 1 = cc in omega arith)
   the-output scratch (some r) long e h u = rw (e, le-leb scratchSize scratch long, h, u)

@@ -14,21 +14,21 @@ use Rattle.reflection.specs.declared.Refusal.{Refusal}
 use Rattle.reflection.specs.declared.ResourceDef.{ResourceDef as Header}
 use Rattle.reflection.specs.Outcome.{Outcome, ok, refused}
 use Rattle.reflection.specs.Reflection.{ResourceDef}
-use Rattle.reflection.specs.Records.{bindingWidth, bufferWidth, variableWidth, typeWidth}
+use Rattle.tables.specs.Records.{bindingWidth, bufferWidth, variableWidth, typeWidth}
 use Rattle.reflection.specs.Contents.{Bytes, contents}
-use Rattle.reading.specs.Step.{Room, room, roomOf, fullRoom}
-use Rattle.reading.specs.Read.{read}
+use Rattle.read_spec.specs.Step.{Room, room, roomOf, fullRoom}
+use Rattle.read_spec.specs.Read.{read}
 use Rattle.readable.specs.Readable.{tableContents, readable}
 use Rattle.readable.proofs.ReadableTables.{Readable, readable-holds}
 use Rattle.readable.proofs.Reading.{tables-at-most-full, read-readable}
-use Rattle.reader.specs.Parsed.{readInto}
-use Rattle.reader.proofs.Held.{Held}
-use Rattle.reader.proofs.Decoded as reading-back
-use Rattle.writing.specs.Same.{sameDef}
-use Rattle.writing.specs.Payload.{readAs, unedited}
-use Rattle.type_equality.specs.Same.{sameName}
-use Rattle.table_placing.specs.TableReflection.{reflectionInTables}
-use Rattle.table_placing.proofs.Decoded.{decoded}
+use Rattle.read.specs.Parsed.{readInto}
+use Rattle.read.proofs.Held.{Held}
+use Rattle.read.proofs.Decoded as reading-back
+use Rattle.write_spec.specs.Same.{sameDef}
+use Rattle.write_spec.specs.Payload.{readAs, unedited}
+use Rattle.compare_types.specs.Same.{sameName}
+use Rattle.tables.specs.TableReflection.{reflectionInTables}
+use Rattle.tables.proofs.Decoded.{decoded}
 use Rattle.payload.specs.Answer.{uneditedHeld}
 use Rattle.payload.proofs.Contents.{same-contents}
 use Rattle.payload.proofs.Found.{found-contents}
@@ -54,10 +54,10 @@ module _ (chunk : Bytes) (bytes : (i : ℕ) → getD chunk i 0 < 256) (b f v t :
   pub found-readable : Readable chunk [] h bindings buffers variables types
   unfolding readInto
   found-readable =
+      let lent = tables-at-most-full (length b) (length f) (length v) (length t) in
       readable-holds chunk [] h bindings buffers variables types
       ((λ i. readable chunk [] (found .header i) (found .in-bindings i) (found .in-buffers i) (found .in-variables i) (found .in-types i))
-      ∙ read-readable chunk [] bytes (roomOf (length b) (length f) (length v) (length t)) (tables-at-most-full (length b) (length f) (length v) (length t)) (found .def) (found .is)
-      (omega arith) nb nf nv nt)
+      ∙ read-readable chunk [] bytes (roomOf (length b) (length f) (length v) (length t)) lent (found .def) (found .is) (omega arith) nb nf nv nt)
 
   found-def : found-readable .def ≡ found .def
   found-def = Option·some-injective (found-readable .def) (found .def) (sym (found-readable .decoded) ∙ reading-back.decoded chunk b f v t found)
@@ -75,7 +75,8 @@ module _ (chunk edits : Bytes) (h : Header) (bindings buffers variables types : 
       ap (uneditedHeld chunk) (holds .is-held)
       ∙ ap (λ (o : Outcome (ResourceDef Text Text)). readAs chunk o (contents chunk edits (holds .def))) (ap (λ (r : Room). read r chunk) (sym whole) ∙ e)
 
-  pub unread-edited : (e : Refusal) → readInto chunk b f v t ≡ refused e → false ≡ uneditedHeld chunk (tableContents chunk edits h bindings buffers variables types)
+  pub unread-edited : (e : Refusal) → readInto chunk b f v t ≡ refused e
+      → false ≡ uneditedHeld chunk (tableContents chunk edits h bindings buffers variables types)
   unread-edited e is = sym (in-full-room (refused e) is)
 
   pub read-compared : (bytes : (i : ℕ) → getD chunk i 0 < 256) {nb nf nv nt : ℕ} {x : Header} {fb ff fv ft : List ℕ}

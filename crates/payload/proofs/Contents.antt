@@ -7,9 +7,9 @@ use Rattle.reflection.specs.declared.Text.{Text}
 use Rattle.reflection.specs.Reflection.{ResourceBinding, CBufferVariable, CBufferDef, ResourceDef, mapBinding, mapVariable, mapBuffer, mapDef}
 use Rattle.reflection.specs.Contents.{Bytes, contents}
 use Rattle.reflection.specs.Texts.{textBytes}
-use Rattle.writing.specs.Same.{sameList, sameBinding, sameVariable, sameBuffer, sameDef, rd11Numbers}
-use Rattle.writing.proofs.NaturalSteps.{same-type-map}
-use Rattle.type_equality.specs.Same.{sameName}
+use Rattle.write_spec.specs.Same.{sameList, sameBinding, sameVariable, sameBuffer, sameDef, rd11Numbers}
+use Rattle.write_spec.proofs.NaturalSteps.{same-type-map}
+use Rattle.compare_types.specs.Same.{sameName}
 
 list-map : {A B : Type 0} (h : A → B) (test : B → B → Bool) (own : A → A → Bool) → ((x y : A) → test (h x) (h y) ≡ own x y)
     → (xs ys : List A) → sameList test (map h xs) (map h ys) ≡ sameList own xs ys

@@ -9,10 +9,12 @@ use lib.ListN.{length, getD, drop}
 use Rattle.text.specs.Same.{sameBytes}
 use Rattle.text.proofs.Bools.{and-true}
 use Rattle.text.proofs.SameBytes.{same-bytes-equal, same-bytes-refl}
-use Rattle.reflection.specs.Reflection.{TypeDesc, typeDesc, Members, noMember, member, Rd11, noRd11, rd11, ResourceBinding, CBufferVariable, CBufferDef, ResourceDef}
+use Rattle.reflection.specs.Reflection.{TypeDesc, typeDesc, Members, noMember, member, Rd11}
+use Rattle.reflection.specs.Reflection.{noRd11, rd11, ResourceBinding, CBufferVariable, CBufferDef, ResourceDef}
 use Rattle.reflection.specs.Contents.{Bytes}
-use Rattle.writing.specs.Same.{numbersOf, sameType, sameMembers, sameList, sameBinding, sameVariable, sameBuffer, sameDef, rd11Numbers}
-use Rattle.round_trip.proofs.Types.{same-type-equal}
+use Rattle.reflection.proofs.Equalities.{numbersOfBinding, equal-bindings, numbersOfVariable, equal-variables, numbersOfBuffer, equal-buffers, equal-defs}
+use Rattle.write_spec.specs.Same.{numbersOf, sameType, sameMembers, sameList, sameBinding, sameVariable, sameBuffer, sameDef, rd11Numbers}
+use Rattle.theorem_round_trip.proofs.Types.{same-type-equal}
 
 list-equal : {A : Type 0} (same : A → A → Bool) → ((x y : A) → same x y ≡ true → x ≡ y) → (xs ys : List A) → sameList same xs ys ≡ true → xs ≡ ys
 unfolding sameList
@@ -28,62 +30,33 @@ list-equal same each (x ∷ xs) (y ∷ ys) e =
 binding-equal : (b c : ResourceBinding Bytes) → sameBinding {D = Bytes} sameBytes sameBytes b c ≡ true → b ≡ c
 unfolding sameBinding
 binding-equal b c e =
-    let bs = b .input-type ∷ b .return-type ∷ b .dimension ∷ b .num-samples ∷ b .bind-point ∷ b .bind-count ∷ b .flags ∷ b .space ∷ b .id ∷ [] in
-    let cs = c .input-type ∷ c .return-type ∷ c .dimension ∷ c .num-samples ∷ c .bind-point ∷ c .bind-count ∷ c .flags ∷ c .space ∷ c .id ∷ [] in
+    let bs = numbersOfBinding b in
+    let cs = numbersOfBinding c in
     let (names, numbers) = and-true (sameBytes (b .name) (c .name)) (sameBytes bs cs) e in
-    let n = same-bytes-equal (b .name) (c .name) names in
-    let p = same-bytes-equal bs cs numbers in
-    λ i. record {
-      name = n i;
-      input-type = getD (p i) 0 0;
-      return-type = getD (p i) 1 0;
-      dimension = getD (p i) 2 0;
-      num-samples = getD (p i) 3 0;
-      bind-point = getD (p i) 4 0;
-      bind-count = getD (p i) 5 0;
-      flags = getD (p i) 6 0;
-      space = getD (p i) 7 0;
-      id = getD (p i) 8 0;
-    }
+    equal-bindings b c (same-bytes-equal (b .name) (c .name) names) (same-bytes-equal bs cs numbers)
 
 variable-equal : (v w : CBufferVariable Bytes Bytes) → sameVariable sameBytes sameBytes v w ≡ true → v ≡ w
 unfolding sameVariable
 variable-equal v w e =
-    let vs = v .offset ∷ v .size ∷ v .flags ∷ v .texture-start ∷ v .texture-size ∷ v .sampler-start ∷ v .sampler-size ∷ [] in
-    let ws = w .offset ∷ w .size ∷ w .flags ∷ w .texture-start ∷ w .texture-size ∷ w .sampler-start ∷ w .sampler-size ∷ [] in
+    let vs = numbersOfVariable v in
+    let ws = numbersOfVariable w in
     let types = sameType sameBytes (v .var-type) (w .var-type) in
     let (names, e₁) = and-true (sameBytes (v .name) (w .name)) (sameBytes vs ws && (sameBytes (v .default-value) (w .default-value) && types)) e in
     let (numbers, e₂) = and-true (sameBytes vs ws) (sameBytes (v .default-value) (w .default-value) && types) e₁ in
     let (defaults, equal-types) = and-true (sameBytes (v .default-value) (w .default-value)) types e₂ in
-    let n = same-bytes-equal (v .name) (w .name) names in
-    let p = same-bytes-equal vs ws numbers in
-    let d = same-bytes-equal (v .default-value) (w .default-value) defaults in
-    let t = same-type-equal (v .var-type) (w .var-type) equal-types in
-    λ i. record {
-      name = n i;
-      offset = getD (p i) 0 0;
-      size = getD (p i) 1 0;
-      flags = getD (p i) 2 0;
-      default-value = d i;
-      texture-start = getD (p i) 3 0;
-      texture-size = getD (p i) 4 0;
-      sampler-start = getD (p i) 5 0;
-      sampler-size = getD (p i) 6 0;
-      var-type = t i;
-    }
+    equal-variables v w (same-bytes-equal (v .name) (w .name) names) (same-bytes-equal vs ws numbers)
+    (same-bytes-equal (v .default-value) (w .default-value) defaults) (same-type-equal (v .var-type) (w .var-type) equal-types)
 
 buffer-equal : (b c : CBufferDef Bytes Bytes) → sameBuffer sameBytes sameBytes b c ≡ true → b ≡ c
 unfolding sameBuffer
 buffer-equal b c e =
-    let bs = b .size ∷ b .flags ∷ b .cb-type ∷ [] in
-    let cs = c .size ∷ c .flags ∷ c .cb-type ∷ [] in
+    let bs = numbersOfBuffer b in
+    let cs = numbersOfBuffer c in
     let all = sameList (sameVariable sameBytes sameBytes) (b .variables) (c .variables) in
     let (names, e₁) = and-true (sameBytes (b .name) (c .name)) (sameBytes bs cs && all) e in
     let (numbers, variables) = and-true (sameBytes bs cs) all e₁ in
-    let n = same-bytes-equal (b .name) (c .name) names in
-    let p = same-bytes-equal bs cs numbers in
-    let vs = list-equal (sameVariable sameBytes sameBytes) variable-equal (b .variables) (c .variables) variables in
-    λ i. record { name = n i; size = getD (p i) 0 0; flags = getD (p i) 1 0; cb-type = getD (p i) 2 0; variables = vs i }
+    equal-buffers b c (same-bytes-equal (b .name) (c .name) names) (same-bytes-equal bs cs numbers)
+    (list-equal (sameVariable sameBytes sameBytes) variable-equal (b .variables) (c .variables) variables)
 
 rd11-equal : (w x : Rd11) → rd11Numbers w ≡ rd11Numbers x → w ≡ x
 unfolding rd11Numbers
@@ -101,13 +74,12 @@ same-def-equal r q e =
     let buffers = sameList (sameBuffer sameBytes sameBytes) (r .constant-buffers) (q .constant-buffers) in
     let (numbers, e₁) = and-true (sameBytes rs qs) (sameBytes (r .creator) (q .creator) && (bindings && buffers)) e in
     let (creators, e₂) = and-true (sameBytes (r .creator) (q .creator)) (bindings && buffers) e₁ in
-    let (equal-bindings, equal-buffers) = and-true bindings buffers e₂ in
+    let (bindings-alike, buffers-alike) = and-true bindings buffers e₂ in
     let p = same-bytes-equal rs qs numbers in
-    let w = rd11-equal (r .rd11) (q .rd11) (ap (drop 2) p) in
-    let c = same-bytes-equal (r .creator) (q .creator) creators in
-    let bs = list-equal (sameBinding {D = Bytes} sameBytes sameBytes) binding-equal (r .bindings) (q .bindings) equal-bindings in
-    let cs = list-equal (sameBuffer sameBytes sameBytes) buffer-equal (r .constant-buffers) (q .constant-buffers) equal-buffers in
-    λ i. record { target-version = getD (p i) 0 0; compile-flags = getD (p i) 1 0; rd11 = w i; creator = c i; bindings = bs i; constant-buffers = cs i }
+    equal-defs r q (λ i. getD (p i) 0 0 ∷ getD (p i) 1 0 ∷ []) (rd11-equal (r .rd11) (q .rd11) (ap (drop 2) p))
+    (same-bytes-equal (r .creator) (q .creator) creators)
+    (list-equal (sameBinding {D = Bytes} sameBytes sameBytes) binding-equal (r .bindings) (q .bindings) bindings-alike)
+    (list-equal (sameBuffer sameBytes sameBytes) buffer-equal (r .constant-buffers) (q .constant-buffers) buffers-alike)
 
 -- Each is equal to itself.
 list-refl : {A : Type 0} (same : A → A → Bool) → ((x : A) → same x x ≡ true) → (xs : List A) → sameList same xs xs ≡ true
@@ -141,14 +113,14 @@ binding-refl : (b : ResourceBinding Bytes) → sameBinding {D = Bytes} sameBytes
 unfolding sameBinding
 binding-refl b =
     let p = same-bytes-refl (b .name) in
-    let q = same-bytes-refl (b .input-type ∷ b .return-type ∷ b .dimension ∷ b .num-samples ∷ b .bind-point ∷ b .bind-count ∷ b .flags ∷ b .space ∷ b .id ∷ []) in
+    let q = same-bytes-refl (numbersOfBinding b) in
     λ i. p i && q i
 
 variable-refl : (v : CBufferVariable Bytes Bytes) → sameVariable sameBytes sameBytes v v ≡ true
 unfolding sameVariable
 variable-refl v =
     let p = same-bytes-refl (v .name) in
-    let q = same-bytes-refl (v .offset ∷ v .size ∷ v .flags ∷ v .texture-start ∷ v .texture-size ∷ v .sampler-start ∷ v .sampler-size ∷ []) in
+    let q = same-bytes-refl (numbersOfVariable v) in
     let d = same-bytes-refl (v .default-value) in
     let t = type-refl (v .var-type) in
     λ i. p i && (q i && (d i && t i))
@@ -157,7 +129,7 @@ buffer-refl : (b : CBufferDef Bytes Bytes) → sameBuffer sameBytes sameBytes b 
 unfolding sameBuffer
 buffer-refl b =
     let p = same-bytes-refl (b .name) in
-    let q = same-bytes-refl (b .size ∷ b .flags ∷ b .cb-type ∷ []) in
+    let q = same-bytes-refl (numbersOfBuffer b) in
     let vs = list-refl (sameVariable sameBytes sameBytes) variable-refl (b .variables) in
     λ i. p i && (q i && vs i)
 

@@ -5,19 +5,21 @@ use mathlib.Core.Bool.{Bool}
 use mathlib.Core.List.{List, [], _∷_, map}
 use Prim.Native.Nat.{ℕ, zero, suc, _+_}
 use native.Mathlib.Omega.{arith}
-use lib.ListN.{length}
 use Rattle.words.specs.Words.{wordAt}
 use Rattle.text.specs.declared.Found.{Found}
 use Rattle.text.specs.declared.Found.the-variants.{At, Bad}
 use Rattle.reflection.specs.declared.Text.{Text}
 use Rattle.reflection.specs.Outcome.{Outcome, ok, refused}
-use Rattle.reflection.specs.Reflection.{TypeDesc, typeDesc, Members, member, Rd11, ResourceBinding, CBufferVariable, CBufferDef, ResourceDef, mapType, mapMembers, mapBinding, mapVariable, mapBuffer, mapDef}
+use Rattle.reflection.specs.Reflection.{TypeDesc, typeDesc, Members, member, Rd11, ResourceBinding, CBufferVariable, CBufferDef, ResourceDef}
+use Rattle.reflection.specs.Reflection.{mapType, mapMembers, mapBinding, mapVariable, mapBuffer, mapDef}
+use Rattle.reflection.proofs.Equalities.{equal-bindings, equal-variables, equal-buffers, equal-defs}
 use Rattle.reflection.specs.Texts.{textBytes}
 use Rattle.reflection.specs.Contents.{Bytes, contents}
-use Rattle.reflection.specs.Nodes.{typeLevels}
-use Rattle.reading.specs.Step.{Room, room, ReadStep, return, refuse, textOr}
-use Rattle.reading.specs.Read.{readMany, readMembers, numbersFrom, readType, readVariable, variableFromChunk, variableStride, readBinding, bindingFromChunk, readBuffer, bufferFromChunk, readTables, readChunk, withoutRoom, read}
-use Rattle.reading.proofs.Steps.{Gives, then-gives, any-gives}
+use Rattle.tables.specs.Nodes.{typeLevels}
+use Rattle.read_spec.specs.Step.{Room, room, ReadStep, return, refuse, textOr}
+use Rattle.read_spec.specs.Read.{readMany, readMembers, numbersFrom, readType, readVariable, variableFromChunk, variableStride}
+use Rattle.read_spec.specs.Read.{readBinding, bindingFromChunk, readBuffer, bufferFromChunk, readTables, readChunk, withoutRoom, read}
+use Rattle.read_spec.proofs.Steps.{Gives, then-gives, any-gives}
 
 module _ (s edits : Bytes) where
   abbrev f : Text → Bytes
@@ -25,42 +27,6 @@ module _ (s edits : Bytes) where
 
   abbrev g : Text → Bytes
   g = textBytes s edits
-
-  -- Records whose texts have the same bytes either way.
-  variable-by : (v : CBufferVariable Text Text) → f (v .name) ≡ g (v .name) → f (v .default-value) ≡ g (v .default-value) → mapType f (v .var-type) ≡ mapType g (v .var-type)
-      → mapVariable f f v ≡ mapVariable g g v
-  unfolding mapVariable
-  variable-by v p d q = λ i. record {
-    name = p i;
-    offset = v .offset;
-    size = v .size;
-    flags = v .flags;
-    default-value = d i;
-    texture-start = v .texture-start;
-    texture-size = v .texture-size;
-    sampler-start = v .sampler-start;
-    sampler-size = v .sampler-size;
-    var-type = q i;
-  }
-
-  buffer-by : (b : CBufferDef Text Text) → f (b .name) ≡ g (b .name) → map (mapVariable f f) (b .variables) ≡ map (mapVariable g g) (b .variables) → mapBuffer f f b ≡ mapBuffer g g b
-  unfolding mapBuffer
-  buffer-by b p o = λ i. record { name = p i; size = b .size; flags = b .flags; cb-type = b .cb-type; variables = o i }
-
-  binding-by : (b : ResourceBinding Text) → f (b .name) ≡ g (b .name) → mapBinding f b ≡ mapBinding g b
-  unfolding mapBinding
-  binding-by b p = λ i. record {
-    name = p i;
-    input-type = b .input-type;
-    return-type = b .return-type;
-    dimension = b .dimension;
-    num-samples = b .num-samples;
-    bind-point = b .bind-point;
-    bind-count = b .bind-count;
-    flags = b .flags;
-    space = b .space;
-    id = b .id;
-  }
 
   -- A text that reading finds.
   text-same : (n : ℕ) (x : Found) (r : Room) → Gives (λ t. f t ≡ g t) (textOr n x r)
@@ -98,32 +64,35 @@ module _ (s edits : Bytes) where
   unfolding readVariable variableFromChunk return mapVariable
   variable-same sm5 at r =
       let P : CBufferVariable Text Text → Type 0 = λ v. mapVariable f f v ≡ mapVariable g g v in
-      any-gives P _ _ (λ _. any-gives P _ _ (λ _. then-gives (λ t. f t ≡ g t) P _ _ (text-same _ _) (λ default d. then-gives (λ t. f t ≡ g t) P _ _ (text-same _ _) (λ name p.
+      any-gives P _ _ (λ _. any-gives P _ _ (λ _. then-gives (λ t. f t ≡ g t) P _ _ (text-same _ _) (λ default d.
+      then-gives (λ t. f t ≡ g t) P _ _ (text-same _ _) (λ name p.
       then-gives (λ t. mapType f t ≡ mapType g t) P _ _ (type-same sm5 typeLevels [] _) (λ t q w.
-      variable-by (variableFromChunk s sm5 at name default t) p d q))))) r
+      equal-variables _ _ p refl d q))))) r
 
   buffer-same : (sm5 : Bool) (at : ℕ) (r : Room) → Gives (λ b. mapBuffer f f b ≡ mapBuffer g g b) (readBuffer s sm5 at r)
   unfolding readBuffer bufferFromChunk return mapBuffer
   buffer-same sm5 at r =
       let P : CBufferDef Text Text → Type 0 = λ b. mapBuffer f f b ≡ mapBuffer g g b in
       any-gives P _ _ (λ _. any-gives P _ _ (λ _.
-      then-gives (λ vs. map (mapVariable f f) vs ≡ map (mapVariable g g) vs) P _ _ (many-same (mapVariable f f) (mapVariable g g) (readVariable s sm5) (variable-same sm5) (variableStride sm5) _ _) (λ vs o.
-      then-gives (λ t. f t ≡ g t) P _ _ (text-same _ _) (λ name p w. buffer-by (bufferFromChunk s at name vs) p o)))) r
+      then-gives (λ vs. map (mapVariable f f) vs ≡ map (mapVariable g g) vs) P _ _
+      (many-same (mapVariable f f) (mapVariable g g) (readVariable s sm5) (variable-same sm5) (variableStride sm5) _ _) (λ vs o.
+      then-gives (λ t. f t ≡ g t) P _ _ (text-same _ _) (λ name p w. equal-buffers _ _ p refl o)))) r
 
   binding-same : (wide : Bool) (at : ℕ) (r : Room) → Gives (λ b. mapBinding f b ≡ mapBinding g b) (readBinding s wide at r)
   unfolding readBinding bindingFromChunk return mapBinding
   binding-same wide at r =
       let P : ResourceBinding Text → Type 0 = λ b. mapBinding f b ≡ mapBinding g b in
       any-gives P _ _ (λ _. any-gives P _ _ (λ _. any-gives P _ _ (λ _. any-gives P _ _ (λ _. any-gives P _ _ (λ _.
-      then-gives (λ t. f t ≡ g t) P _ _ (text-same _ _) (λ name p w. binding-by (bindingFromChunk s wide at name) p)))))) r
+      then-gives (λ t. f t ≡ g t) P _ _ (text-same _ _) (λ name p w. equal-bindings _ _ p refl)))))) r
 
-  tables-same : (creator : Text) → f creator ≡ g creator → (words : Rd11) (r : Room) → Gives (λ d. contents s [] d ≡ contents s edits d) (readTables s creator words r)
+  tables-same : (creator : Text) → f creator ≡ g creator → (words : Rd11) (r : Room)
+      → Gives (λ d. contents s [] d ≡ contents s edits d) (readTables s creator words r)
   unfolding readTables return contents mapDef
   tables-same creator c words r =
       let P : ResourceDef Text Text → Type 0 = λ d. contents s [] d ≡ contents s edits d in
       then-gives (λ bs. map (mapBinding f) bs ≡ map (mapBinding g) bs) P _ _ (many-same (mapBinding f) (mapBinding g) _ (binding-same _) _ _ _) (λ bs o.
       then-gives (λ cs. map (mapBuffer f f) cs ≡ map (mapBuffer g g) cs) P _ _ (many-same (mapBuffer f f) (mapBuffer g g) _ (buffer-same _) _ _ _) (λ cs q w.
-      (λ i. record { target-version = wordAt s 16; compile-flags = wordAt s 20; rd11 = words; creator = c i; bindings = o i; constant-buffers = q i }))) r
+      equal-defs _ _ refl refl c o q)) r
 
   chunk-same : (r : Room) → Gives (λ d. contents s [] d ≡ contents s edits d) (readChunk s r)
   unfolding readChunk

@@ -20,29 +20,29 @@ use Rattle.reflection.specs.declared.Text.{Text}
 use Rattle.reflection.specs.declared.ResourceDef.{ResourceDef as Header}
 use Rattle.reflection.specs.Outcome.{Outcome, ok, refused, because}
 use Rattle.reflection.specs.Reflection.{ResourceDef}
-use Rattle.reflection.specs.Tables.{padded, bindingRows, bufferRows, variableRows, typeRows, headerOf}
+use Rattle.tables.specs.Tables.{padded, bindingRows, bufferRows, variableRows, typeRows, headerOf}
 use Rattle.reflection.specs.Contents.{Bytes, contents}
-use Rattle.reading.specs.Step.{Room, roomOf, fullRoom}
-use Rattle.reading.specs.Read.{read}
+use Rattle.read_spec.specs.Step.{Room, roomOf, fullRoom}
+use Rattle.read_spec.specs.Read.{read}
 use Rattle.readable.specs.Readable.{tableContents, readableContents}
 use Rattle.readable.proofs.Reading.{AtMostFull, tables-at-most-full, read-contents, read-held}
-use Rattle.reader.specs.Parsed.{readInto}
-use Rattle.reader.proofs.Held.{Held}
-use Rattle.emit.specs.Written.{fitsIn, fitting}
-use Rattle.writing.specs.Same.{sameDef}
-use Rattle.writing.specs.Canonical.{canonical}
-use Rattle.writing.specs.Payload.{Part, wholeChunk, written, handedBack, readAs, unedited, asPart, payloadOf, payload}
-use Rattle.round_trip.specs.RoundTrip.{NumbersAreWords}
-use Rattle.round_trip.proofs.RoundTrip.{round-trip}
-use Rattle.round_trip.proofs.HeldWords.{WordTable, HeaderWords, held-words}
+use Rattle.read.specs.Parsed.{readInto}
+use Rattle.read.proofs.Held.{Held}
+use Rattle.text_output.specs.Written.{fitsIn, fitting}
+use Rattle.write_spec.specs.Same.{sameDef}
+use Rattle.write_spec.specs.Canonical.{canonical}
+use Rattle.write_spec.specs.Payload.{Part, wholeChunk, written, handedBack, readAs, unedited, asPart, payloadOf, payload}
+use Rattle.theorem_round_trip.specs.RoundTrip.{NumbersAreWords}
+use Rattle.theorem_round_trip.proofs.RoundTrip.{round-trip}
+use Rattle.theorem_round_trip.proofs.HeldWords.{WordTable, HeaderWords, held-words}
 use Rattle.payload.specs.Answer.{payloadAnswer, payloadOutput, payloadPart}
 use Rattle.payload.specs.ReadsBack.{ReadsBack}
 use Rattle.payload.proofs.Found.{found-contents}
 use Rattle.payload.proofs.Wider.{read-wider}
 use Rattle.payload.proofs.Equal.{same-def-equal, same-def-refl}
 
--- A chunk that reads as d, in room that is at most the whole room: the payload of the tables that reading leaves is the chunk, whatever the text of edits and the
--- output are.
+-- A chunk that reads as d, in room that is at most the whole room: the payload of the tables that reading leaves is the chunk, whatever the text of edits
+-- and the output are.
 module _
     (out : ℕ)
     (chunk edits : Bytes)
@@ -53,7 +53,9 @@ module _
     (d : ResourceDef Text Text)
     (reads : read r chunk ≡ ok d) where
   in-full-room : read fullRoom chunk ≡ ok d
-  in-full-room = read-wider chunk r fullRoom (record { bindings = full .bindings; buffers = full .buffers; variables = full .variables; types = full .types }) d reads
+  in-full-room =
+      read-wider chunk r fullRoom
+      (record { bindings = full .bindings; buffers = full .buffers; variables = full .variables; types = full .types }) d reads
 
   as-read : unedited chunk (contents chunk edits d) ≡ true
   unfolding unedited
@@ -63,7 +65,9 @@ module _
       ∙ same-def-refl (contents chunk edits d)
 
   pub unedited-hands-chunk : (nb nf nv nt : ℕ)
-      → payload out chunk (tableContents chunk edits (headerOf d) (padded nb (bindingRows d)) (padded nf (bufferRows d)) (padded nv (variableRows d)) (padded nt (typeRows d))) ≡ ok wholeChunk
+      → payload out chunk
+      (tableContents chunk edits (headerOf d) (padded nb (bindingRows d)) (padded nf (bufferRows d)) (padded nv (variableRows d)) (padded nt (typeRows d)))
+      ≡ ok wholeChunk
   unfolding payload payloadOf
   unedited-hands-chunk nb nf nv nt =
       ap (payload out chunk) (read-held chunk edits bytes r full d reads short nb nf nv nt)
@@ -73,11 +77,14 @@ module _
 -- So of what `parse_rdef` left in the tables that it was lent, of whatever length they are.
 pub read-hands-chunk : (out : ℕ) (chunk edits : Bytes) → ((i : ℕ) → getD chunk i 0 < 256) → length edits ≤ chunkLimit
     → (b f v t : List ℕ) {nb nf nv nt : ℕ} {h : Header} {bindings buffers variables types : List ℕ}
-    → Held (readInto chunk b f v t) nb nf nv nt h bindings buffers variables types → payload out chunk (tableContents chunk edits h bindings buffers variables types) ≡ ok wholeChunk
+    → Held (readInto chunk b f v t) nb nf nv nt h bindings buffers variables types
+    → payload out chunk (tableContents chunk edits h bindings buffers variables types) ≡ ok wholeChunk
 unfolding readInto
 read-hands-chunk out chunk edits bytes short b f v t {nb} {nf} {nv} {nt} found =
-    (λ i. payload out chunk (tableContents chunk edits (found .header i) (found .in-bindings i) (found .in-buffers i) (found .in-variables i) (found .in-types i)))
-    ∙ unedited-hands-chunk out chunk edits bytes short (roomOf (length b) (length f) (length v) (length t)) (tables-at-most-full (length b) (length f) (length v) (length t)) (found .def) (found .is) nb nf nv nt
+    let lent = tables-at-most-full (length b) (length f) (length v) (length t) in
+    (λ i. payload out chunk
+    (tableContents chunk edits (found .header i) (found .in-bindings i) (found .in-buffers i) (found .in-variables i) (found .in-types i)))
+    ∙ unedited-hands-chunk out chunk edits bytes short (roomOf (length b) (length f) (length v) (length t)) lent (found .def) (found .is) nb nf nv nt
 
 -- What is handed back for a reflection.
 module _ (room : ℕ) (chunk : Bytes) (r : ResourceDef Bytes Bytes) where
@@ -99,7 +106,8 @@ module _ (room : ℕ) (chunk : Bytes) (r : ResourceDef Bytes Bytes) where
   unfolding payload payloadOf asPart fitting
   handed p e = by-readable (readableContents r) refl e
     where
-      by-fit : (fits : Bool) → fitsIn room (length (canonical r)) ≡ fits → asPart (cond fits (ok (canonical r)) (refused (because outputTooSmall))) ≡ ok p → Handed p
+      by-fit : (fits : Bool) → fitsIn room (length (canonical r)) ≡ fits → asPart (cond fits (ok (canonical r)) (refused (because outputTooSmall))) ≡ ok p
+          → Handed p
       by-fit true is q = the-form (cc) (leb-true (length (canonical r)) (min room chunkLimit) is)
       by-fit false is q = absurd (let apart : _≡_ {A = ℕ} 0 1 = cc in omega arith)
 
@@ -108,7 +116,8 @@ module _ (room : ℕ) (chunk : Bytes) (r : ResourceDef Bytes Bytes) where
       by-unedited false is q = by-fit (fitsIn room (length (canonical r))) refl q
 
       by-readable : (passes : Bool) → readableContents r ≡ passes
-          → cond passes (cond (unedited chunk r) (ok wholeChunk) (asPart (fitting room (ok (canonical r))))) (refused (because notReadable)) ≡ ok p → (readableContents r ≡ true) × Handed p
+          → cond passes (cond (unedited chunk r) (ok wholeChunk) (asPart (fitting room (ok (canonical r))))) (refused (because notReadable)) ≡ ok p
+          → (readableContents r ≡ true) × Handed p
       by-readable true is q = (is, by-unedited (unedited chunk r) refl q)
       by-readable false is q = absurd (let apart : _≡_ {A = ℕ} 0 1 = cc in omega arith)
 
@@ -122,14 +131,17 @@ module _ (room : ℕ) (chunk : Bytes) (r : ResourceDef Bytes Bytes) where
       go passes (the-chunk is same) = subst (λ (q : Part). ReadsBack (handedBack chunk q) r) (sym is) (unedited-reads same)
       go passes (the-form is fits) =
           let back = round-trip r passes words (omega (arith, fits)) in
-          subst (λ (q : Part). ReadsBack (handedBack chunk q) r) (sym is) (record { read-back = back .read-back; reads = back .reads; restored = back .restored })
+          subst (λ (q : Part). ReadsBack (handedBack chunk q) r) (sym is)
+          (record { read-back = back .read-back; reads = back .reads; restored = back .restored })
 
 -- So of what a header and tables of words hold: what is handed back reads as that.
-pub payload-reads-back : (room : ℕ) (chunk edits : Bytes) (h : Header) (bindings buffers variables types : List ℕ) → HeaderWords h → WordTable bindings → WordTable buffers
+pub payload-reads-back : (room : ℕ) (chunk edits : Bytes) (h : Header) (bindings buffers variables types : List ℕ) → HeaderWords h → WordTable bindings
+    → WordTable buffers
     → WordTable variables → WordTable types → (p : Part) → payload room chunk (tableContents chunk edits h bindings buffers variables types) ≡ ok p
     → (r : ResourceDef Bytes Bytes) × (tableContents chunk edits h bindings buffers variables types ≡ some r) × ReadsBack (handedBack chunk p) r
 unfolding payload
-payload-reads-back room chunk edits h bindings buffers variables types header b f v t p e = go (tableContents chunk edits h bindings buffers variables types) refl e
+payload-reads-back room chunk edits h bindings buffers variables types header b f v t p e =
+    go (tableContents chunk edits h bindings buffers variables types) refl e
   where
     go : (o : Option (ResourceDef Bytes Bytes)) → tableContents chunk edits h bindings buffers variables types ≡ o → payload room chunk o ≡ ok p
         → (r : ResourceDef Bytes Bytes) × (tableContents chunk edits h bindings buffers variables types ≡ some r) × ReadsBack (handedBack chunk p) r
@@ -140,7 +152,8 @@ payload-reads-back room chunk edits h bindings buffers variables types header b 
 written-part : (bytes out : Bytes) → length bytes ≤ length out → part (splice out 0 bytes) 0 (length bytes) ≡ bytes
 unfolding part inside
 written-part bytes out fits =
-    let holds : leb (0 + length bytes) (length (splice out 0 bytes)) ≡ true = le-leb (0 + length bytes) (length (splice out 0 bytes)) (omega (arith, fits, length-splice out 0 bytes)) in
+    let holds : leb (0 + length bytes) (length (splice out 0 bytes)) ≡ true =
+    le-leb (0 + length bytes) (length (splice out 0 bytes)) (omega (arith, fits, length-splice out 0 bytes)) in
     let rest = drop (0 + length bytes) out in
     rw (holds, part)
     (ap (λ (l : Bytes). take (length bytes) l) (splice-eq out 0 bytes (omega arith))
@@ -155,4 +168,5 @@ part-handed-back chunk out r p e = go (handed (length out) chunk r p e .1)
     go : Handed (length out) chunk r p → payloadPart chunk (payloadOutput (ok p) out) (payloadAnswer (ok p)) ≡ handedBack chunk p
     go (the-chunk is same) = subst (λ (q : Part). payloadPart chunk (payloadOutput (ok q) out) (payloadAnswer (ok q)) ≡ handedBack chunk q) (sym is) refl
     go (the-form is fits) =
-        subst (λ (q : Part). payloadPart chunk (payloadOutput (ok q) out) (payloadAnswer (ok q)) ≡ handedBack chunk q) (sym is) (written-part (canonical r) out (omega (arith, fits)))
+        subst (λ (q : Part). payloadPart chunk (payloadOutput (ok q) out) (payloadAnswer (ok q)) ≡ handedBack chunk q) (sym is)
+        (written-part (canonical r) out (omega (arith, fits)))

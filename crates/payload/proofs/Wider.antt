@@ -10,9 +10,10 @@ use Rattle.reflection.specs.Strides.{memberStride}
 use Rattle.reflection.specs.declared.Text.{Text}
 use Rattle.reflection.specs.Outcome.{Outcome, ok, refused}
 use Rattle.reflection.specs.Reflection.{TypeDesc, Rd11, ResourceDef}
-use Rattle.reflection.specs.Nodes.{typeLevels}
-use Rattle.reading.specs.Step.{Room, room, ReadStep, andThen, _>>=_, return, refuse, check, textOr, oneLess, takeBinding, takeBuffer, takeVariable, takeType}
-use Rattle.reading.specs.Read.{readMany, readMembers, readType, readVariable, variableStride, readBinding, readBuffer, readRd11, readTables, readChunk, withoutRoom, read}
+use Rattle.tables.specs.Nodes.{typeLevels}
+use Rattle.read_spec.specs.Step.{Room, room, ReadStep, andThen, _>>=_, return, refuse, check, textOr, oneLess, takeBinding, takeBuffer, takeVariable, takeType}
+use Rattle.read_spec.specs.Read.{readMany, readMembers, readType, readVariable, variableStride}
+use Rattle.read_spec.specs.Read.{readBinding, readBuffer, readRd11, readTables, readChunk, withoutRoom, read}
 
 -- Room for no more records than other room has.
 pub record AtMost (r w : Room) : Type 0 where
@@ -53,7 +54,8 @@ unfolding textOr
 text-widens n (At place k) = return-widens _
 text-widens n Bad = refuse-widens n
 
-less-widens : (n m : ℕ) (f g : ℕ → Room) → n ≤ m → ((k l : ℕ) → k ≤ l → AtMost (f k) (g l)) → (u : Unit {0}) (q : Room) → oneLess n f ≡ ok (u, q) → Gave (oneLess m g) u q
+less-widens : (n m : ℕ) (f g : ℕ → Room) → n ≤ m → ((k l : ℕ) → k ≤ l → AtMost (f k) (g l)) → (u : Unit {0}) (q : Room) → oneLess n f ≡ ok (u, q)
+    → Gave (oneLess m g) u q
 less-widens zero m f g h each u q e = absurd (let apart : _≡_ {A = ℕ} 0 1 = cc in omega arith)
 less-widens (suc n) zero f g h each u q e = absurd (omega arith)
 less-widens (suc n) (suc m) f g h each u q e =
@@ -62,19 +64,35 @@ less-widens (suc n) (suc m) f g h each u q e =
 
 binding-widens : Widens takeBinding
 unfolding takeBinding
-binding-widens = record { wide = λ r w h u q e. less-widens (r .bindings) (w .bindings) _ _ (h .bindings) (λ k l s. record { bindings = s; buffers = h .buffers; variables = h .variables; types = h .types }) u q e }
+binding-widens = record {
+  wide = λ r w h u q e.
+      less-widens (r .bindings) (w .bindings) _ _ (h .bindings)
+      (λ k l s. record { bindings = s; buffers = h .buffers; variables = h .variables; types = h .types }) u q e;
+}
 
 buffer-widens : Widens takeBuffer
 unfolding takeBuffer
-buffer-widens = record { wide = λ r w h u q e. less-widens (r .buffers) (w .buffers) _ _ (h .buffers) (λ k l s. record { bindings = h .bindings; buffers = s; variables = h .variables; types = h .types }) u q e }
+buffer-widens = record {
+  wide = λ r w h u q e.
+      less-widens (r .buffers) (w .buffers) _ _ (h .buffers)
+      (λ k l s. record { bindings = h .bindings; buffers = s; variables = h .variables; types = h .types }) u q e;
+}
 
 variable-widens : Widens takeVariable
 unfolding takeVariable
-variable-widens = record { wide = λ r w h u q e. less-widens (r .variables) (w .variables) _ _ (h .variables) (λ k l s. record { bindings = h .bindings; buffers = h .buffers; variables = s; types = h .types }) u q e }
+variable-widens = record {
+  wide = λ r w h u q e.
+      less-widens (r .variables) (w .variables) _ _ (h .variables)
+      (λ k l s. record { bindings = h .bindings; buffers = h .buffers; variables = s; types = h .types }) u q e;
+}
 
 type-widens : Widens takeType
 unfolding takeType
-type-widens = record { wide = λ r w h u q e. less-widens (r .types) (w .types) _ _ (h .types) (λ k l s. record { bindings = h .bindings; buffers = h .buffers; variables = h .variables; types = s }) u q e }
+type-widens = record {
+  wide = λ r w h u q e.
+      less-widens (r .types) (w .types) _ _ (h .types)
+      (λ k l s. record { bindings = h .bindings; buffers = h .buffers; variables = h .variables; types = s }) u q e;
+}
 
 then-widens : {A B : Type 0} (m : ReadStep A) (f : A → ReadStep B) → Widens m → ((a : A) → Widens (f a)) → Widens (m >>= f)
 unfolding _>>=_
@@ -90,7 +108,8 @@ then-widens {A} {B} m f first next = record { wide = λ r w h b q e. go r w h b 
 many-widens : {A : Type 0} (one : ℕ → ReadStep A) → ((at : ℕ) → Widens (one at)) → (stride n at : ℕ) → Widens (readMany one stride n at)
 unfolding readMany
 many-widens one each stride zero at = return-widens []
-many-widens one each stride (suc n) at = then-widens _ _ (each at) (λ x. then-widens _ _ (many-widens one each stride n (at + stride)) (λ xs. return-widens (x ∷ xs)))
+many-widens one each stride (suc n) at =
+    then-widens _ _ (each at) (λ x. then-widens _ _ (many-widens one each stride n (at + stride)) (λ xs. return-widens (x ∷ xs)))
 
 module _ (s : List ℕ) where
   members-widen : (one : ℕ → ReadStep (TypeDesc Text)) → ((at : ℕ) → Widens (one at)) → (n at : ℕ) → Widens (readMembers one s n at)
@@ -105,24 +124,27 @@ module _ (s : List ℕ) where
   read-type-widens sm5 zero path at = refuse-widens _
   read-type-widens sm5 (suc levels) path at =
       then-widens _ _ (check-widens _ _) (λ _. then-widens _ _ type-widens (λ _. then-widens _ _ (check-widens _ _) (λ _.
-      then-widens _ _ (members-widen _ (λ below. read-type-widens sm5 levels (at ∷ path) below) _ _) (λ ms. then-widens _ _ (text-widens _ _) (λ name. return-widens _)))))
+      then-widens _ _ (members-widen _ (λ below. read-type-widens sm5 levels (at ∷ path) below) _ _) (λ ms.
+      then-widens _ _ (text-widens _ _) (λ name. return-widens _)))))
 
   read-variable-widens : (sm5 : Bool) (at : ℕ) → Widens (readVariable s sm5 at)
   unfolding readVariable
   read-variable-widens sm5 at =
-      then-widens _ _ variable-widens (λ _. then-widens _ _ (check-widens _ _) (λ _. then-widens _ _ (text-widens _ _) (λ default. then-widens _ _ (text-widens _ _) (λ name.
-      then-widens _ _ (read-type-widens sm5 typeLevels [] _) (λ t. return-widens _)))))
+      then-widens _ _ variable-widens (λ _. then-widens _ _ (check-widens _ _) (λ _. then-widens _ _ (text-widens _ _) (λ default.
+      then-widens _ _ (text-widens _ _) (λ name. then-widens _ _ (read-type-widens sm5 typeLevels [] _) (λ t. return-widens _)))))
 
   read-buffer-widens : (sm5 : Bool) (at : ℕ) → Widens (readBuffer s sm5 at)
   unfolding readBuffer
   read-buffer-widens sm5 at =
-      then-widens _ _ buffer-widens (λ _. then-widens _ _ (check-widens _ _) (λ _. then-widens _ _ (many-widens (readVariable s sm5) (read-variable-widens sm5) (variableStride sm5) _ _) (λ vs.
+      then-widens _ _ buffer-widens (λ _. then-widens _ _ (check-widens _ _) (λ _.
+      then-widens _ _ (many-widens (readVariable s sm5) (read-variable-widens sm5) (variableStride sm5) _ _) (λ vs.
       then-widens _ _ (text-widens _ _) (λ name. return-widens _))))
 
   read-binding-widens : (wide : Bool) (at : ℕ) → Widens (readBinding s wide at)
   unfolding readBinding
   read-binding-widens wide at =
-      then-widens _ _ binding-widens (λ _. then-widens _ _ (check-widens _ _) (λ _. then-widens _ _ (check-widens _ _) (λ _. then-widens _ _ (check-widens _ _) (λ _.
+      then-widens _ _ binding-widens (λ _. then-widens _ _ (check-widens _ _) (λ _. then-widens _ _ (check-widens _ _) (λ _.
+      then-widens _ _ (check-widens _ _) (λ _.
       then-widens _ _ (check-widens _ _) (λ _. then-widens _ _ (text-widens _ _) (λ name. return-widens _))))))
 
   rd11-widens : (sm5 : Bool) → Widens (readRd11 s sm5)
@@ -138,7 +160,8 @@ module _ (s : List ℕ) where
   chunk-widens : Widens (readChunk s)
   unfolding readChunk
   chunk-widens =
-      then-widens _ _ (check-widens _ _) (λ _. then-widens _ _ (check-widens _ _) (λ _. then-widens _ _ (check-widens _ _) (λ _. then-widens _ _ (text-widens _ _) (λ creator.
+      then-widens _ _ (check-widens _ _) (λ _. then-widens _ _ (check-widens _ _) (λ _. then-widens _ _ (check-widens _ _) (λ _.
+      then-widens _ _ (text-widens _ _) (λ creator.
       then-widens _ _ (rd11-widens _) (λ words. tables-widen creator words)))))
 
   pub read-wider : (r w : Room) → AtMost r w → (d : ResourceDef Text Text) → read r s ≡ ok d → read w s ≡ ok d

@@ -1,6 +1,7 @@
 -- What `write_payload` answers and leaves in the output, and what part of the two buffers is handed back, by the definition of the payload.
+use mathlib.Core.Path.{_≡_}
 use mathlib.Core.Bool.{Bool, false, cond, _&&_}
-use mathlib.Core.List.{[]}
+use mathlib.Core.List.{List, []}
 use mathlib.Core.Option.{Option, none, some}
 use Prim.Native.Nat.{ℕ}
 use lib.Dec.{leb}
@@ -11,14 +12,16 @@ use Rattle.reflection.specs.Limits.{bindingTable, bufferTable, variableTable, t
 use Rattle.reflection.specs.Refusals.{noRoom}
 use Rattle.reflection.specs.declared.NamePlace.{NamePlace}
 use Rattle.reflection.specs.declared.NamePlace.the-variants.{InPlace, Refused as Missing}
+use Rattle.reflection.specs.declared.ResourceDef.{ResourceDef as Header}
 use Rattle.reflection.specs.Outcome.{Outcome, ok, refused, because}
 use Rattle.reflection.specs.Reflection.{ResourceDef}
 use Rattle.reflection.specs.Texts.{namePlace}
 use Rattle.reflection.specs.Contents.{Bytes}
-use Rattle.emit.specs.declared.Written.{Written}
-use Rattle.emit.specs.declared.Written.the-variants.{Wrote, Refused as NotWritten}
-use Rattle.writing.specs.Outcome.{scratchSize}
-use Rattle.writing.specs.Payload.{Part, wholeChunk, written, unedited, payload}
+use Rattle.readable.specs.Readable.{tableContents}
+use Rattle.text_output.specs.declared.Written.{Written}
+use Rattle.text_output.specs.declared.Written.the-variants.{Wrote, Refused as NotWritten}
+use Rattle.write_spec.specs.Outcome.{scratchSize}
+use Rattle.write_spec.specs.Payload.{Part, wholeChunk, written, unedited, payload}
 use Rattle.payload.specs.declared.Payload.{Payload}
 use Rattle.payload.specs.declared.Payload.the-variants.{Chunk, Output, Refused}
 
@@ -31,6 +34,12 @@ roomEnough bindings buffers variables types scratch =
 unfoldable pub payloadWith : Bool → ℕ → Bytes → Option (ResourceDef Bytes Bytes) → Outcome Part
 payloadWith enough room chunk r = cond enough (payload room chunk r) (refused (because noRoom))
 
+-- The payload of the reflection that a header and four tables hold, with these tables, this scratch and this output lent: of them only the lengths count.
+abbrev pub payloadInto : List ℕ → List ℕ → List ℕ → List ℕ → List ℕ → Bytes → Bytes → Bytes → Header → List ℕ → List ℕ → List ℕ → List ℕ → Outcome Part
+payloadInto foundBindings foundBuffers foundVariables foundTypes scratch out chunk edits h bindings buffers variables types =
+    payloadWith (roomEnough (length foundBindings) (length foundBuffers) (length foundVariables) (length foundTypes) (length scratch)) (length out) chunk
+    (tableContents chunk edits h bindings buffers variables types)
+
 -- The answer's three cases.
 unfoldable pub payloadAnswer : Outcome Part → Payload
 payloadAnswer (ok wholeChunk) = Chunk
@@ -42,6 +51,11 @@ unfoldable pub payloadOutput : Outcome Part → Bytes → Bytes
 payloadOutput (ok wholeChunk) out = out
 payloadOutput (ok (written bytes)) out = splice out 0 bytes
 payloadOutput (refused e) out = replicate (length out) 0
+
+-- What `write_payload` leaves of an outcome: its answer, and what the output, which held `before`, holds after it.
+pub record PayloadWritten (outcome : Outcome Part) (before after : Bytes) (r : Payload) : Type 0 where
+  pub answer : r ≡ payloadAnswer outcome
+  pub out : after ≡ payloadOutput outcome before
 
 -- Whether the chunk reads as what the tables hold, where they hold something.
 unfoldable pub uneditedHeld : Bytes → Option (ResourceDef Bytes Bytes) → Bool

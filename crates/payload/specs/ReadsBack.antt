@@ -6,8 +6,8 @@ use Rattle.reflection.specs.declared.Text.{Text}
 use Rattle.reflection.specs.Outcome.{ok}
 use Rattle.reflection.specs.Reflection.{ResourceDef}
 use Rattle.reflection.specs.Contents.{Bytes, contents}
-use Rattle.reading.specs.Step.{fullRoom}
-use Rattle.reading.specs.Read.{read}
+use Rattle.read_spec.specs.Step.{fullRoom}
+use Rattle.read_spec.specs.Read.{read}
 
 pub record ReadsBack (bytes : Bytes) (r : ResourceDef Bytes Bytes) : Type 0 where
   pub read-back : ResourceDef Text Text

@@ -6,12 +6,12 @@ ghost use lib.ListN.{length, replicate};
 ghost use Rattle.reflection.specs.Limits.{bindingTable, bufferTable, variableTable, typeTable};
 ghost use Rattle.reflection.specs.Outcome.{refused, because};
 ghost use Rattle.readable.specs.Readable.{tableContents, readable};
-ghost use Rattle.payload.specs.Answer.{roomEnough, uneditedHeld, writtenAnswer, payloadWith, payloadAnswer, payloadOutput, payloadPart, payloadPlace};
-use emit::Written;
-use reader::Parsed;
+ghost use Rattle.payload.specs.Answer.{roomEnough, uneditedHeld, writtenAnswer, payloadInto, PayloadWritten, payloadPart, payloadPlace};
+use read::Parsed;
 use reflection::NamePlace;
 use reflection::Refusal;
 use reflection::ResourceDef;
+use text_output::Written;
 
 // What is handed back: the chunk, so many bytes of the output, or nothing, and why.
 pub enum Payload {
@@ -36,15 +36,14 @@ fn enough(bindings: usize, buffers: usize, variables: usize, types: usize, scrat
     if types < reflection::TYPE_TABLE {
         return false;
     }
-    writing::SCRATCH_WORDS <= scratch
+    write_spec::SCRATCH_WORDS <= scratch
 }
 
 // A refusal: the output is zeroed.
 fn refuse(out: &mut [u8], number: u32) -> Payload
-    ensures answer { λ r. ⌜ r ≡ payloadAnswer (refused (because number)) ⌝ }
-    ensures out { λ _. ⌜ now (out .exit) ≡ payloadOutput (refused (because number)) (now (out .entry)) ⌝ }
+    ensures { λ r. ⌜ PayloadWritten (refused (because number)) (now (out .entry)) (now (out .exit)) r ⌝ }
 {
-    emit::refuse(out, number);
+    text_output::refuse(out, number);
     Payload::Refused(Refusal { number: number })
 }
 
@@ -75,13 +74,14 @@ fn unedited<'a>(
     requires { ⌜ readable (now chunk) (now edits) def (now bindings) (now buffers) (now variables) (now types) ≡ true ⌝ }
     requires { ⌜ (bindingTable ≤ length (now «found_bindings»)) × ((bufferTable ≤ length (now «found_buffers»))
         × ((variableTable ≤ length (now «found_variables»)) × (typeTable ≤ length (now «found_types»)))) ⌝ }
-    ensures answer { λ r. ⌜ r ≡ uneditedHeld (now (chunk .entry)) (tableContents (now (chunk .entry)) (now (edits .entry)) def (now (bindings .entry)) (now (buffers .entry)) (now (variables .entry)) (now (types .entry))) ⌝ }
+    ensures answer { λ r. ⌜ r ≡ uneditedHeld (now (chunk .entry)) (tableContents (now (chunk .entry)) (now (edits .entry)) def
+        (now (bindings .entry)) (now (buffers .entry)) (now (variables .entry)) (now (types .entry))) ⌝ }
     ensures bindings { λ _. ⌜ length (now («found_bindings» .exit)) ≡ length (now («found_bindings» .entry)) ⌝ }
     ensures buffers { λ _. ⌜ length (now («found_buffers» .exit)) ≡ length (now («found_buffers» .entry)) ⌝ }
     ensures variables { λ _. ⌜ length (now («found_variables» .exit)) ≡ length (now («found_variables» .entry)) ⌝ }
     ensures types { λ _. ⌜ length (now («found_types» .exit)) ≡ length (now («found_types» .entry)) ⌝ }
 {
-    let parsed = reader::parse_rdef(
+    let parsed = read::parse_rdef(
         chunk,
         found_bindings,
         found_buffers,
@@ -90,7 +90,7 @@ fn unedited<'a>(
     );
     match parsed {
         Parsed::Refused(_) => false,
-        Parsed::Read(found) => comparing::same_reflection(
+        Parsed::Read(found) => compare::same_reflection(
             chunk,
             edits,
             found,
@@ -123,14 +123,11 @@ fn find_payload<'a>(
     scratch: &mut [u32],
     out: &mut [u8],
 ) -> Payload
-    ensures answer { λ r. ⌜ r ≡ payloadAnswer (payloadWith
-        (roomEnough (length (now («found_bindings» .entry))) (length (now («found_buffers» .entry))) (length (now («found_variables» .entry))) (length (now («found_types» .entry))) (length (now (scratch .entry))))
-        (length (now (out .entry))) (now (chunk .entry))
-        (tableContents (now (chunk .entry)) (now (edits .entry)) def (now (bindings .entry)) (now (buffers .entry)) (now (variables .entry)) (now (types .entry)))) ⌝ }
-    ensures out { λ _. ⌜ now (out .exit) ≡ payloadOutput (payloadWith
-        (roomEnough (length (now («found_bindings» .entry))) (length (now («found_buffers» .entry))) (length (now («found_variables» .entry))) (length (now («found_types» .entry))) (length (now (scratch .entry))))
-        (length (now (out .entry))) (now (chunk .entry))
-        (tableContents (now (chunk .entry)) (now (edits .entry)) def (now (bindings .entry)) (now (buffers .entry)) (now (variables .entry)) (now (types .entry)))) (now (out .entry)) ⌝ }
+    ensures payload { λ r. ⌜ PayloadWritten
+        (payloadInto (now («found_bindings» .entry)) (now («found_buffers» .entry)) (now («found_variables» .entry)) (now («found_types» .entry))
+        (now (scratch .entry)) (now (out .entry)) (now (chunk .entry)) (now (edits .entry)) def
+        (now (bindings .entry)) (now (buffers .entry)) (now (variables .entry)) (now (types .entry)))
+        (now (out .entry)) (now (out .exit)) r ⌝ }
     ensures bindings { λ _. ⌜ length (now («found_bindings» .exit)) ≡ length (now («found_bindings» .entry)) ⌝ }
     ensures buffers { λ _. ⌜ length (now («found_buffers» .exit)) ≡ length (now («found_buffers» .entry)) ⌝ }
     ensures variables { λ _. ⌜ length (now («found_variables» .exit)) ≡ length (now («found_variables» .entry)) ⌝ }
@@ -164,7 +161,7 @@ fn find_payload<'a>(
     ) {
         return Payload::Chunk;
     }
-    let written = writer::write_rdef_canonical(
+    let written = write::write_rdef_canonical(
         chunk,
         edits,
         def,
@@ -179,7 +176,7 @@ fn find_payload<'a>(
 }
 
 // The payload of the reflection that the tables hold. The chunk is read again into the four lent tables `found_…`, which are scratch: 15 where one has
-// not document 01's whole room or the scratch is shorter than `writing::SCRATCH_WORDS`; 16 where the reflection is not readable; then the chunk where it
+// not document 01's whole room or the scratch is shorter than `write_spec::SCRATCH_WORDS`; 16 where the reflection is not readable; then the chunk where it
 // reads as this reflection, however short the output, which is then untouched; else the canonical form, or 17 where it is longer than the output or than
 // 65,536 bytes. The four tables and the scratch are zeroed in any case, the output by a refusal; bytes past the written length are as they were.
 pub fn write_payload<'a>(
@@ -197,14 +194,11 @@ pub fn write_payload<'a>(
     scratch: &mut [u32],
     out: &mut [u8],
 ) -> Payload
-    ensures answer { λ r. ⌜ r ≡ payloadAnswer (payloadWith
-        (roomEnough (length (now («found_bindings» .entry))) (length (now («found_buffers» .entry))) (length (now («found_variables» .entry))) (length (now («found_types» .entry))) (length (now (scratch .entry))))
-        (length (now (out .entry))) (now (chunk .entry))
-        (tableContents (now (chunk .entry)) (now (edits .entry)) def (now (bindings .entry)) (now (buffers .entry)) (now (variables .entry)) (now (types .entry)))) ⌝ }
-    ensures out { λ _. ⌜ now (out .exit) ≡ payloadOutput (payloadWith
-        (roomEnough (length (now («found_bindings» .entry))) (length (now («found_buffers» .entry))) (length (now («found_variables» .entry))) (length (now («found_types» .entry))) (length (now (scratch .entry))))
-        (length (now (out .entry))) (now (chunk .entry))
-        (tableContents (now (chunk .entry)) (now (edits .entry)) def (now (bindings .entry)) (now (buffers .entry)) (now (variables .entry)) (now (types .entry)))) (now (out .entry)) ⌝ }
+    ensures payload { λ r. ⌜ PayloadWritten
+        (payloadInto (now («found_bindings» .entry)) (now («found_buffers» .entry)) (now («found_variables» .entry)) (now («found_types» .entry))
+        (now (scratch .entry)) (now (out .entry)) (now (chunk .entry)) (now (edits .entry)) def
+        (now (bindings .entry)) (now (buffers .entry)) (now (variables .entry)) (now (types .entry)))
+        (now (out .entry)) (now (out .exit)) r ⌝ }
     ensures bindings { λ _. ⌜ now («found_bindings» .exit) ≡ replicate (length (now («found_bindings» .entry))) 0 ⌝ }
     ensures buffers { λ _. ⌜ now («found_buffers» .exit) ≡ replicate (length (now («found_buffers» .entry))) 0 ⌝ }
     ensures variables { λ _. ⌜ now («found_variables» .exit) ≡ replicate (length (now («found_variables» .entry))) 0 ⌝ }

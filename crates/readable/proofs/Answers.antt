@@ -6,7 +6,7 @@ use Prim.Native.Nat.{ℕ}
 use lib.ListN.{length}
 use Rattle.reflection.specs.declared.ResourceDef.{ResourceDef as Header}
 use Rattle.reflection.specs.Reflection.{isSm5, isWide}
-use Rattle.reflection.specs.Decode.{rd11FromHeader}
+use Rattle.reflection.specs.Rd11.{rd11FromHeader}
 use Rattle.reflection.specs.Contents.{Bytes}
 use Rattle.readable.specs.Readable.{readable}
 use Rattle.readable.specs.Checks.{countsChecked, headerChecked, bindingsChecked, buffersChecked, variablesChecked, recordsChecked}

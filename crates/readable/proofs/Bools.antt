@@ -3,10 +3,8 @@ use mathlib.Core.Path.{_≡_, refl, sym, ap, _∙_}
 use mathlib.Core.Bool.{Bool, true, false, _&&_, _||_, and-assoc, and-comm}
 use mathlib.Core.List.{List, [], _∷_, _++_, map}
 use mathlib.Core.Option.{Option, none, some}
-use native.Mathlib.Omega.{arith}
-use Prim.Native.Nat.{ℕ}
-use Rattle.reflection.specs.Nodes.{_>>=_}
-use Rattle.reflection.specs.Decode.{guard}
+use Rattle.tables.specs.Nodes.{_>>=_}
+use Rattle.tables.specs.Decode.{guard}
 use Rattle.readable.specs.Readable.{every}
 use Rattle.readable.specs.Checks.{passes}
 
@@ -44,12 +42,6 @@ module _ {A B : Type 0} where
   then-same none f g e = refl
   then-same (some a) f g e = e a refl
 
-  -- What a step that gave something was given.
-  pub then-was : (m : Option A) (f : A → Option B) (b : B) → (m >>= f) ≡ some b → (a : A) × (m ≡ some a) × (f a ≡ some b)
-  unfolding _>>=_
-  then-was none f b e = absurd (let apart : _≡_ {A = ℕ} 0 1 = cc in omega arith)
-  then-was (some a) f b e = (a, refl, e)
-
 -- A test that holds whatever step gives something, and its test.
 pub check-first : {A B : Type 0} (b : Bool) (m : Option A) (k : A → Bool) (g : A → B)
     → (guard b >>= λ _. (m >>= λ a. guard (k a) >>= λ _. some (g a))) ≡ (m >>= λ a. guard (b && k a) >>= λ _. some (g a))
@@ -83,11 +75,6 @@ module _ {A : Type 0} (test : A → Bool) where
   unfolding every
   every-both other [] = refl
   every-both other (x ∷ xs) = rw (← (every-both other xs)) (simp tests-in-order)
-
-pub check-was : {B : Type 0} (b : Bool) (f : Unit {0} → Option B) (x : B) → (guard b >>= f) ≡ some x → (b ≡ true) × (f tt ≡ some x)
-unfolding guard _>>=_
-check-was true f x e = (refl, e)
-check-was false f x e = absurd (let apart : _≡_ {A = ℕ} 0 1 = cc in omega arith)
 
 -- A conjunction or a disjunction whose parts are known.
 pub both-are : {r a b a′ b′ : Bool} → r ≡ (a && b) → a ≡ a′ → b ≡ b′ → r ≡ (a′ && b′)

@@ -10,16 +10,11 @@ use Rattle.reflection.specs.declared.Text.{Text}
 use Rattle.reflection.specs.declared.CBufferDef.{CBufferDef as BufferRecord}
 use Rattle.reflection.specs.declared.CBufferVariable.{CBufferVariable as VariableRecord}
 use Rattle.reflection.specs.Reflection.{TypeDesc, typeDesc, Members, noMember, member, CBufferVariable, CBufferDef, mapType, mapMembers, mapVariable, mapBuffer}
-use Rattle.reflection.specs.Nodes.{Node, Built, nodesOf, nodesOfMembers, membersFromNodes, typeFromNodes, typeLevels}
-use Rattle.reflection.specs.Tables.{allVariables}
-use Rattle.reflection.specs.Decode.{recordsFrom, variableFromTable, bufferFromTable, variablesFrom, buffersFrom}
+use Rattle.tables.specs.Nodes.{Node, Built, nodesOf, nodesOfMembers, membersFromNodes, typeFromNodes, typeLevels}
+use Rattle.reflection.specs.Reflection.{allVariables}
+use Rattle.tables.specs.Decode.{variableFromTable, bufferFromTable, variablesFrom, buffersFrom}
+use Rattle.tables.proofs.Options.{some-was, then-was, check-was}
 use Rattle.readable.specs.Readable.{nodeCount}
-use Rattle.readable.proofs.Bools.{then-was, check-was}
-
-pub length-records : {A : Type 0} (at : ℕ → A) (i n : ℕ) → length (recordsFrom at i n) ≡ n
-unfolding recordsFrom
-length-records at i zero = refl
-length-records at i (suc n) = ap suc (length-records at (suc i) n)
 
 -- The nodes of a type and those left are the nodes that there were.
 module _ {N : Type 0} where
@@ -33,8 +28,8 @@ module _ {N : Type 0} where
   unfolding nodesOfMembers
   no-member xs ms e = let same : (noMember, xs) ≡ ms = cc in omega (arith, ap afterMembers same)
 
-  one-member : (mn : N) (mo : ℕ) (t : TypeDesc N) (long left : ℕ) (others ms : Members N × List (Node N)) → some (member mn mo t (others .0), others .1) ≡ some ms
-      → long ≡ length (nodesOf mn mo t) + left → left ≡ afterMembers others → long ≡ afterMembers ms
+  one-member : (mn : N) (mo : ℕ) (t : TypeDesc N) (long left : ℕ) (others ms : Members N × List (Node N))
+      → some (member mn mo t (others .0), others .1) ≡ some ms → long ≡ length (nodesOf mn mo t) + left → left ≡ afterMembers others → long ≡ afterMembers ms
   unfolding nodesOfMembers
   one-member mn mo t long left others ms e own rest =
       let same : (member mn mo t (others .0), others .1) ≡ ms = cc in
@@ -56,7 +51,7 @@ module _ {N : Type 0} where
       → long ≡ afterMembers ms → suc long ≡ afterType n o t
   unfolding nodesOf
   one-type n o x long ms t e rest =
-      let same : record { type = typeDesc (x .numbers) (x .name) (ms .0); member-name = x .member-name; member-offset = x .member-offset; left = ms .1 } ≡ t = cc in
+      let same : _ ≡ t = some-was e in
       omega (arith, ap (afterType n o) same)
 
   pub type-used : (levels : ℕ) (n : N) (o : ℕ) (xs : List (Node N)) (t : Built N) → typeFromNodes levels xs ≡ some t → length xs ≡ afterType n o t
@@ -83,7 +78,8 @@ one-variable v t vs xs others typed e own rest =
     let same : variableFromTable v (t .type) ∷ others ≡ typed = cc in
     record { variables = omega (arith, ap length same, rest .variables); nodes = omega (arith, ap nodeCount same, rest .nodes) }
 
-pub variables-used : (vs : List VariableRecord) (xs : List (Node Text)) (typed : List (CBufferVariable Text Text)) → variablesFrom vs xs ≡ some typed → AllUsed vs xs typed
+pub variables-used : (vs : List VariableRecord) (xs : List (Node Text)) (typed : List (CBufferVariable Text Text)) → variablesFrom vs xs ≡ some typed
+    → AllUsed vs xs typed
 unfolding variablesFrom
 variables-used [] [] typed e = no-variable typed e
 variables-used [] (x ∷ xs) typed e = absurd (let apart : _≡_ {A = ℕ} 0 1 = cc in omega arith)
@@ -91,7 +87,8 @@ variables-used (v ∷ vs) xs typed e =
     let first = then-was (typeFromNodes typeLevels xs) _ typed e in
     let t = first .0 in
     let others = then-was (variablesFrom vs (t .left)) _ typed (first .2) in
-    one-variable v t vs xs (others .0) typed (others .2) (type-used typeLevels (v .name) 0 xs t (first .1)) (variables-used vs (t .left) (others .0) (others .1))
+    one-variable v t vs xs (others .0) typed (others .2) (type-used typeLevels (v .name) 0 xs t (first .1))
+    (variables-used vs (t .left) (others .0) (others .1))
 
 -- The buffers that are built are as many as their records, and have all variables.
 pub record AllTaken (cs : List BufferRecord) (vs : List (CBufferVariable Text Text)) (bs : List (CBufferDef Text Text)) : Type 0 where
@@ -112,7 +109,8 @@ one-buffer c cs vs others bs e rest =
       variables = ap allVariables (sym same) ∙ ap (λ ws. take (c .«variable_count») vs ++ ws) (rest .variables) ∙ take-append-drop (c .«variable_count») vs;
     }
 
-pub buffers-taken : (cs : List BufferRecord) (vs : List (CBufferVariable Text Text)) (bs : List (CBufferDef Text Text)) → buffersFrom cs vs ≡ some bs → AllTaken cs vs bs
+pub buffers-taken : (cs : List BufferRecord) (vs : List (CBufferVariable Text Text)) (bs : List (CBufferDef Text Text)) → buffersFrom cs vs ≡ some bs
+    → AllTaken cs vs bs
 unfolding buffersFrom
 buffers-taken [] [] bs e = no-buffer bs e
 buffers-taken [] (v ∷ vs) bs e = absurd (let apart : _≡_ {A = ℕ} 0 1 = cc in omega arith)
@@ -144,4 +142,5 @@ module _ {N M : Type 0} (f : N → M) where
     pub variables-map : (bs : List (CBufferDef N D)) → allVariables (map (mapBuffer f g) bs) ≡ map (mapVariable f g) (allVariables bs)
     unfolding allVariables mapBuffer
     variables-map [] = refl
-    variables-map (b ∷ bs) = ap (λ vs. map (mapVariable f g) (b .variables) ++ vs) (variables-map bs) ∙ sym (map-append (mapVariable f g) (b .variables) (allVariables bs))
+    variables-map (b ∷ bs) = ap (λ vs. map (mapVariable f g) (b .variables) ++ vs) (variables-map bs)
+        ∙ sym (map-append (mapVariable f g) (b .variables) (allVariables bs))

@@ -11,7 +11,7 @@ use Rattle.reflection.specs.declared.ResourceDef.{ResourceDef as Header}
 use Rattle.reflection.specs.Strides.{rd11HeaderSize, bufferStride, variableStride, typeStride, memberStride}
 use Rattle.reflection.specs.Rd11.{rd11Allowed}
 use Rattle.reflection.specs.Reflection.{majorOf, isSm5}
-use Rattle.reflection.specs.Decode.{rd11FromHeader}
+use Rattle.reflection.specs.Rd11.{rd11FromHeader}
 use Rattle.reflection.proofs.Rd11Words.{sm5-is, rd11-by-sm5}
 use Rattle.reflection.specs.Contents.{Bytes}
 use Rattle.readable.specs.Readable.{every, zeroUnless, versionReadable, rd11Absent}
@@ -27,7 +27,8 @@ module _ (h : Header) where
     absent-5 = ap (λ b. zeroUnless b threeWords) five
 
     abbrev allowed : Bool
-    allowed = rd11Allowed (h .rd11 .identifier) rd11HeaderSize bufferStride (h .rd11 .«resource_binding_stride») (variableStride true) (typeStride true) memberStride
+    allowed = rd11Allowed (h .rd11 .identifier) rd11HeaderSize bufferStride (h .rd11 .«resource_binding_stride») (variableStride true)
+        (typeStride true) memberStride
 
     pub version-5 : versionReadable (h .«target_version») (rd11FromHeader h) ≡ allowed
     unfolding versionReadable

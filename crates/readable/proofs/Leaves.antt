@@ -9,8 +9,8 @@ use Rattle.text.specs.declared.Found.the-variants.{At, Bad}
 use Rattle.reflection.specs.declared.Text.{Text}
 use Rattle.reflection.specs.Outcome.{Outcome, ok, refused}
 use Rattle.reflection.specs.Texts.{inChunk}
-use Rattle.reading.specs.Step.{Room, room, ReadStep, andThen, oneLess, _>>=_, return, refuse, check, textOr, takeBinding, takeBuffer, takeVariable, takeType}
-use Rattle.reading.specs.Read.{readMany, withoutRoom}
+use Rattle.read_spec.specs.Step.{Room, room, ReadStep, andThen, oneLess, _>>=_, return, refuse, check, textOr, takeBinding, takeBuffer, takeVariable, takeType}
+use Rattle.read_spec.specs.Read.{readMany, withoutRoom}
 
 -- What holds of a result and the room left; of a refusal nothing.
 abbrev pub Leaves : {A : Type 0} → (A → Room → Type 0) → Outcome (A × Room) → Type 0
@@ -42,7 +42,8 @@ module _ {B : Type 0} (P : B → Room → Type 0) where
   check-leaves true n f r h = h refl
   check-leaves false n f r h = tt
 
-  pub text-leaves : (n : ℕ) (x : Found) (f : Text → ReadStep B) (r : Room) → ((place k : ℕ) → x ≡ At place k → Leaves P (f (inChunk place k) r)) → Leaves P ((textOr n x >>= f) r)
+  pub text-leaves : (n : ℕ) (x : Found) (f : Text → ReadStep B) (r : Room) → ((place k : ℕ) → x ≡ At place k → Leaves P (f (inChunk place k) r))
+      → Leaves P ((textOr n x >>= f) r)
   unfolding textOr _>>=_ return refuse
   text-leaves n (At place k) f r h = h place k refl
   text-leaves n Bad f r h = tt
@@ -83,12 +84,14 @@ module _ {B : Type 0} (P : B → Room → Type 0) where
 -- Records one after the other.
 pub many-leaves : {A : Type 0} (Q : A → Room → Room → Type 0) (P : List A → Room → Room → Type 0)
     → ((r : Room) → P [] r r) → ((x : A) (xs : List A) (r r′ r″ : Room) → Q x r r′ → P xs r′ r″ → P (x ∷ xs) r r″)
-    → (read : ℕ → ReadStep A) → ((at : ℕ) (r : Room) → Leaves (λ x r′. Q x r r′) (read at r)) → (stride n at : ℕ) (r : Room) → Leaves (λ xs r′. P xs r r′) (readMany read stride n at r)
+    → (read : ℕ → ReadStep A) → ((at : ℕ) (r : Room) → Leaves (λ x r′. Q x r r′) (read at r)) → (stride n at : ℕ) (r : Room)
+    → Leaves (λ xs r′. P xs r r′) (readMany read stride n at r)
 unfolding readMany return
 many-leaves Q P none more read h stride zero at r = none r
 many-leaves Q P none more read h stride (suc n) at r =
     then-leaves (λ x r′. Q x r r′) (λ xs r′. P xs r r′) _ _ r (h at r) (λ x r′ q.
-    then-leaves (λ xs r″. P xs r′ r″) (λ xs r″. P xs r r″) _ _ r′ (many-leaves Q P none more read h stride n (at + stride) r′) (λ xs r″ p. more x xs r r′ r″ q p))
+    then-leaves (λ xs r″. P xs r′ r″) (λ xs r″. P xs r r″) _ _ r′ (many-leaves Q P none more read h stride n (at + stride) r′)
+    (λ xs r″ p. more x xs r r′ r″ q p))
 
 -- What was read.
 pub value-left : {A : Type 0} (P : A → Room → Type 0) (x : Outcome (A × Room)) (a : A) → Leaves P x → withoutRoom x ≡ ok a → (r : Room) × P a r

@@ -10,13 +10,15 @@ use Rattle.reflection.specs.Limits.{bindingRoom, bufferRoom, variableRoom, type
 use Rattle.reflection.specs.declared.Text.{Text}
 use Rattle.reflection.specs.declared.CBufferDef.{CBufferDef as BufferRecord}
 use Rattle.reflection.specs.declared.CBufferVariable.{CBufferVariable as VariableRecord}
-use Rattle.reflection.specs.Reflection.{TypeDesc, CBufferVariable, CBufferDef, ResourceBinding, ResourceDef, isSm5, isWide, mapType, mapBinding, mapVariable, mapBuffer, mapDef}
-use Rattle.reflection.specs.Nodes.{Node, _>>=_, typeFromNodes, typeLevels}
-use Rattle.reflection.specs.Tables.{allVariables}
-use Rattle.reflection.specs.Decode.{guard, variableFromTable, bufferFromTable, variablesFrom, buffersFrom}
+use Rattle.reflection.specs.Reflection.{TypeDesc, CBufferVariable, CBufferDef, ResourceBinding, ResourceDef, isSm5, isWide, mapType, mapBinding}
+use Rattle.reflection.specs.Reflection.{mapVariable, mapBuffer, mapDef}
+use Rattle.tables.specs.Nodes.{Node, _>>=_, typeFromNodes, typeLevels}
+use Rattle.reflection.specs.Reflection.{allVariables}
+use Rattle.tables.specs.Decode.{guard, variableFromTable, bufferFromTable, variablesFrom, buffersFrom}
 use Rattle.reflection.specs.Texts.{inPlace, textBytes}
 use Rattle.reflection.specs.Contents.{Bytes, contents, typeNames, variableNames, outerNames, innerNames, defaultsOf}
-use Rattle.readable.specs.Readable.{every, nameReadable, defaultReadable, zeroUnless, versionReadable, bindingReadable, typeReadable, variableReadable, nodeCount, roomKept, readableContents, textsInPlace}
+use Rattle.readable.specs.Readable.{every, nameReadable, defaultReadable, zeroUnless, versionReadable, bindingReadable, typeReadable}
+use Rattle.readable.specs.Readable.{variableReadable, nodeCount, roomKept, readableContents, textsInPlace}
 use Rattle.readable.specs.Checks.{passes, nameChecked, defaultChecked, buffersTake, variableChecked, variablesTake}
 use Rattle.readable.proofs.Bools.{tests-in-order, holds-check, holds-and, holds-same, holds-then, every-append, every-map, every-both}
 use Rattle.readable.proofs.TypeTests.{typeHeld, passed, type-held, type-left, length-held}
@@ -29,7 +31,8 @@ of-variable : (place tplaces places dplace dplaces read treads reads dread dread
     ≡ ((((place && read) && ((dplace && dread′) && slots)) && type) && all)
 of-variable place tplaces places dplace dplaces read treads reads dread dread′ slots tread others type all default of-type of-all =
     let together : ((place && (tplaces && places)) && ((dplace && dplaces) && ((read && (treads && reads)) && ((dread && (slots && tread)) && others))))
-    ≡ ((((place && read) && ((dplace && dread) && slots)) && (tplaces && (treads && tread))) && (places && (dplaces && (reads && others)))) = simp tests-in-order in
+    ≡ ((((place && read) && ((dplace && dread) && slots)) && (tplaces && (treads && tread))) && (places && (dplaces && (reads && others)))) = simp
+    tests-in-order in
     together ∙ (λ i. (((place && read) && (default i && slots)) && of-type i) && of-all i)
 
 -- The tests of a reflection, taken together for each of its tables.
@@ -56,7 +59,8 @@ module _ (chunk edits : Bytes) where
       let n = c .«variable_count» in
       let named : List (CBufferDef Text Text) → Bool = λ bs. every (nameChecked chunk edits) (map (λ b. b .name) bs) in
       holds-check named (leb n (length vs)) _
-      ∙ ap (λ b. leb n (length vs) && b) (holds-then named (buffersFrom cs (drop n vs)) _ ∙ holds-and (nameChecked chunk edits (c .name)) named (buffersFrom cs (drop n vs)) ∙ ap (λ b. nameChecked chunk edits (c .name) && b) (buffers-take cs (drop n vs)))
+      ∙ ap (λ b. leb n (length vs) && b) (holds-then named (buffersFrom cs (drop n vs)) _ ∙ holds-and (nameChecked chunk edits (c .name)) named
+      (buffersFrom cs (drop n vs)) ∙ ap (λ b. nameChecked chunk edits (c .name) && b) (buffers-take cs (drop n vs)))
       ∙ rw (length-drop n vs) (simp tests-in-order)
 
   module _ (sm5 : Bool) where
@@ -64,10 +68,12 @@ module _ (chunk edits : Bytes) where
     unfoldable pub typedHeld : CBufferVariable Text Text → Bool
     typedHeld v =
         (nameChecked chunk edits (v .name)
-        && (defaultChecked chunk edits (v .size) (v .default-value) && zeroUnless sm5 (v .texture-start ∷ v .texture-size ∷ v .sampler-start ∷ v .sampler-size ∷ [])))
+        && (defaultChecked chunk edits (v .size) (v .default-value) && zeroUnless sm5
+        (v .texture-start ∷ v .texture-size ∷ v .sampler-start ∷ v .sampler-size ∷ [])))
         && typeHeld chunk edits sm5 (v .var-type) typeLevels
 
-    one-variable : (v : VariableRecord) (t : TypeDesc Text) (left : List (Node Text)) (others : Option (List (CBufferVariable Text Text))) (rest : List (Node Text) → Bool)
+    one-variable : (v : VariableRecord) (t : TypeDesc Text) (left : List (Node Text)) (others : Option (List (CBufferVariable Text Text)))
+        (rest : List (Node Text) → Bool)
         → passes (every typedHeld) others ≡ rest left
         → passes (every typedHeld) (others >>= λ typed. some (variableFromTable v t ∷ typed))
         ≡ (variableChecked chunk edits sm5 v && passes rest (guard (typeHeld chunk edits sm5 t typeLevels && true) >>= λ _. some left))
@@ -78,9 +84,11 @@ module _ (chunk edits : Bytes) where
         ∙ ap (λ b. typedHeld (variableFromTable v t) && b) e
         ∙ and-assoc (variableChecked chunk edits sm5 v) (typeHeld chunk edits sm5 t typeLevels) (rest left)
         ∙ ap (λ b. variableChecked chunk edits sm5 v && b)
-        (ap (λ b. b && rest left) (sym (and-true (typeHeld chunk edits sm5 t typeLevels))) ∙ sym (holds-check rest (typeHeld chunk edits sm5 t typeLevels && true) (λ _. some left)))
+        (ap (λ b. b && rest left) (sym (and-true (typeHeld chunk edits sm5 t typeLevels)))
+        ∙ sym (holds-check rest (typeHeld chunk edits sm5 t typeLevels && true) (λ _. some left)))
 
-    pub variables-take : (vs : List VariableRecord) (xs : List (Node Text)) → passes (every typedHeld) (variablesFrom vs xs) ≡ variablesTake chunk edits sm5 vs xs
+    pub variables-take : (vs : List VariableRecord) (xs : List (Node Text))
+        → passes (every typedHeld) (variablesFrom vs xs) ≡ variablesTake chunk edits sm5 vs xs
     unfolding variablesFrom variablesTake every
     variables-take [] [] = refl
     variables-take [] (x ∷ xs) = refl
@@ -89,9 +97,11 @@ module _ (chunk edits : Bytes) where
         let own = variableChecked chunk edits sm5 v in
         let rest = variablesTake chunk edits sm5 vs in
         holds-then (every typedHeld) built _
-        ∙ holds-same _ (λ t. own && passes rest (passed chunk edits sm5 false typeLevels t)) built (λ t e. one-variable v (t .type) (t .left) (variablesFrom vs (t .left)) rest (variables-take vs (t .left)))
+        ∙ holds-same _ (λ t. own && passes rest (passed chunk edits sm5 false typeLevels t)) built
+        (λ t e. one-variable v (t .type) (t .left) (variablesFrom vs (t .left)) rest (variables-take vs (t .left)))
         ∙ holds-and own (λ t. passes rest (passed chunk edits sm5 false typeLevels t)) built
-        ∙ ap (λ b. own && b) (sym (holds-then rest built (passed chunk edits sm5 false typeLevels)) ∙ ap (passes rest) (sym (type-left chunk edits sm5 typeLevels false xs)))
+        ∙ ap (λ b. own && b) (sym (holds-then rest built (passed chunk edits sm5 false typeLevels))
+        ∙ ap (passes rest) (sym (type-left chunk edits sm5 typeLevels false xs)))
 
   -- The tests of the variables by their contents are those of the variables.
   module _ (sm5 : Bool) where
@@ -111,7 +121,8 @@ module _ (chunk edits : Bytes) where
         )
         (of-variable (inPlace chunk edits (v .name)) (every (inPlace chunk edits) (typeNames (v .var-type))) (every (inPlace chunk edits) (variableNames vs))
         (inPlace chunk edits (v .default-value)) (every (inPlace chunk edits) (map (λ v. v .default-value) vs))
-        (nameReadable (bytes (v .name))) (every nameReadable (typeNames (mapType bytes (v .var-type)))) (every nameReadable (variableNames (map (mapVariable bytes bytes) vs)))
+        (nameReadable (bytes (v .name))) (every nameReadable (typeNames (mapType bytes (v .var-type))))
+        (every nameReadable (variableNames (map (mapVariable bytes bytes) vs)))
         (defaultReadable (v .size) (bytes (v .default-value))) (eqb (v .default-value .length) 0 || eqb (v .default-value .length) (v .size))
         (zeroUnless sm5 (v .texture-start ∷ v .texture-size ∷ v .sampler-start ∷ v .sampler-size ∷ []))
         (typeReadable sm5 (mapType bytes (v .var-type)) typeLevels)
@@ -125,7 +136,8 @@ module _ (chunk edits : Bytes) where
   -- Names by contents and in their buffers.
   pub names-held : (ns : List Text) → (every (inPlace chunk edits) ns && every nameReadable (map bytes ns)) ≡ every (nameChecked chunk edits) ns
   unfolding nameChecked
-  names-held ns = ap (λ b. every (inPlace chunk edits) ns && b) (every-map nameReadable bytes ns) ∙ every-both (inPlace chunk edits) (λ n. nameReadable (bytes n)) ns
+  names-held ns = ap (λ b. every (inPlace chunk edits) ns && b) (every-map nameReadable bytes ns) ∙ every-both (inPlace chunk edits)
+      (λ n. nameReadable (bytes n)) ns
 
   name-held : (t : Text) → (inPlace chunk edits t && nameReadable (bytes t)) ≡ nameChecked chunk edits t
   unfolding nameChecked
@@ -163,18 +175,24 @@ module _ (chunk edits : Bytes) where
   binding-codes wide bs = every-map (bindingReadable wide) (mapBinding bytes) bs
 
   bindings-tested : (wide : Bool) (bs : List (ResourceBinding Text))
-      → ((every (inPlace chunk edits) (map (λ b. b .name) bs) && every nameReadable (map bytes (map (λ b. b .name) bs))) && every (bindingReadable wide) bs) ≡ every (bindingTests wide) bs
+      → ((every (inPlace chunk edits) (map (λ b. b .name) bs) && every nameReadable (map bytes (map (λ b. b .name) bs))) && every
+      (bindingReadable wide) bs) ≡ every (bindingTests wide) bs
   bindings-tested wide bs =
-      ap (λ b. b && every (bindingReadable wide) bs) (names-held (map (λ b. b .name) bs) ∙ every-map (nameChecked chunk edits) (λ (b : ResourceBinding Text). b .name) bs)
+      ap (λ b. b && every (bindingReadable wide) bs) (names-held (map (λ b. b .name) bs) ∙ every-map (nameChecked chunk edits)
+      (λ (b : ResourceBinding Text). b .name) bs)
       ∙ every-both (λ b. nameChecked chunk edits (b .name)) (bindingReadable wide) bs
 
   room-kept : (r : ResourceDef Text Text) → roomKept (contents chunk edits r) ≡ roomKept r
   unfolding roomKept contents mapDef
   room-kept r =
-      let variables : allVariables (map (mapBuffer bytes bytes) (r .constant-buffers)) ≡ map (mapVariable bytes bytes) (allVariables (r .constant-buffers)) = variables-map bytes bytes (r .constant-buffers) in
-      let counted : length (allVariables (map (mapBuffer bytes bytes) (r .constant-buffers))) ≡ length (allVariables (r .constant-buffers)) = ap length variables ∙ length-map (allVariables (r .constant-buffers)) (mapVariable bytes bytes) in
-      let nodes : nodeCount (allVariables (map (mapBuffer bytes bytes) (r .constant-buffers))) ≡ nodeCount (allVariables (r .constant-buffers)) = ap nodeCount variables ∙ map-node-count bytes bytes (allVariables (r .constant-buffers)) in
-      (λ i. leb (length-map (r .bindings) (mapBinding bytes) i) bindingRoom && (leb (length-map (r .constant-buffers) (mapBuffer bytes bytes) i) bufferRoom && (leb (counted i) variableRoom && leb (nodes i) typeRoom)))
+      let variables : allVariables (map (mapBuffer bytes bytes) (r .constant-buffers)) ≡ map (mapVariable bytes bytes)
+      (allVariables (r .constant-buffers)) = variables-map bytes bytes (r .constant-buffers) in
+      let counted : length (allVariables (map (mapBuffer bytes bytes) (r .constant-buffers))) ≡ length (allVariables (r .constant-buffers)) = ap
+      length variables ∙ length-map (allVariables (r .constant-buffers)) (mapVariable bytes bytes) in
+      let nodes : nodeCount (allVariables (map (mapBuffer bytes bytes) (r .constant-buffers))) ≡ nodeCount (allVariables (r .constant-buffers)) = ap
+      nodeCount variables ∙ map-node-count bytes bytes (allVariables (r .constant-buffers)) in
+      (λ i. leb (length-map (r .bindings) (mapBinding bytes) i) bindingRoom &&
+      (leb (length-map (r .constant-buffers) (mapBuffer bytes bytes) i) bufferRoom && (leb (counted i) variableRoom && leb (nodes i) typeRoom)))
 
   pub tests-by-part : (r : ResourceDef Text Text) → tests r ≡ testsByPart r
   unfolding textsInPlace readableContents contents mapDef outerNames innerNames defaultsOf every
@@ -193,7 +211,8 @@ module _ (chunk edits : Bytes) where
       && (every nameReadable (variableNames (variables-map bytes bytes cs i) ++ (bytes (r .creator) ∷ []))
       && (binding-codes wide bs i && (every (variableReadable sm5) (variables-map bytes bytes cs i) && room-kept r i))))))
       ∙ (λ i. ((every (inPlace chunk edits) bnames && every (inPlace chunk edits) cnames)
-      && ((every (inPlace chunk edits) (variableNames vs) && (inPlace chunk edits (r .creator) && true)) && every (inPlace chunk edits) (map (λ v. v .default-value) vs)))
+      && ((every (inPlace chunk edits) (variableNames vs) && (inPlace chunk edits (r .creator) && true)) && every (inPlace chunk edits)
+      (map (λ v. v .default-value) vs)))
       && (versionReadable (r .target-version) (r .rd11)
       && (every-append nameReadable (map bytes bnames) (map bytes cnames) i
       && (every-append nameReadable (variableNames (map (mapVariable bytes bytes) vs)) (bytes (r .creator) ∷ []) i

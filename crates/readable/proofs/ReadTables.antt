@@ -15,17 +15,20 @@ use Rattle.reflection.specs.Strides.{rd11HeaderSize, bindingStride, bufferStrid
 use Rattle.reflection.specs.Rd11.{rd11Allowed}
 use Rattle.reflection.specs.declared.Text.{Text}
 use Rattle.reflection.specs.Reflection.{CBufferVariable, CBufferDef, ResourceBinding, ResourceDef, Rd11, rd11, majorOf, isSm5, isWide}
-use Rattle.reflection.specs.Nodes.{nodesOf, typeLevels}
+use Rattle.tables.specs.Nodes.{nodesOf, typeLevels}
 use Rattle.reflection.specs.Texts.{inChunk}
-use Rattle.reflection.specs.Tables.{allVariables}
+use Rattle.reflection.specs.Reflection.{allVariables}
 use Rattle.reflection.specs.Contents.{Bytes}
-use Rattle.reading.specs.Step.{Room, return}
-use Rattle.reading.specs.Read.{wordIf, readMany, readVariable, variableFromChunk, readBuffer, bufferFromChunk, readBinding, bindingFromChunk, readRd11, readTables, readChunk}
+use Rattle.read_spec.specs.Step.{Room, return}
+use Rattle.read_spec.specs.Read.{readMany, readVariable, variableFromChunk, readBuffer, bufferFromChunk, readBinding, bindingFromChunk, readRd11}
+use Rattle.read_spec.specs.Read.{readTables, readChunk}
+use Rattle.words.specs.Words.{wordIf}
 use Rattle.readable.specs.Readable.{every, zeroUnless, versionReadable, bindingReadable, nodeCount}
 use Rattle.readable.specs.Checks.{nameChecked}
 use Rattle.readable.proofs.Bools.{every-append}
 use Rattle.readable.proofs.Parts.{typedHeld, bindingTests}
-use Rattle.readable.proofs.Leaves.{Leaves, Spent, none-spent, then-leaves, check-leaves, text-leaves, binding-leaves, buffer-leaves, variable-leaves, many-leaves}
+use Rattle.readable.proofs.Leaves.{Leaves, Spent, none-spent, then-leaves, check-leaves, text-leaves, binding-leaves, buffer-leaves}
+use Rattle.readable.proofs.Leaves.{variable-leaves, many-leaves}
 use Rattle.readable.proofs.ReadTypes.{string-held, default-held, longer-held, TypeRead, type-read}
 
 -- Records taken one after the other.
@@ -77,13 +80,22 @@ module _ (chunk edits : Bytes) where
       check-leaves P _ _ _ r′ (λ dimension.
       check-leaves P _ _ _ r′ (λ flags.
       text-leaves P _ _ _ r′ (λ place k named.
-      record { held = (λ i. string-held chunk edits _ place k named i && (input-type i && (dimension i && (flags i && space-held wide (at + 32) (at + 36) i)))); spent = taken }))))))
+      record {
+        held = (λ i. string-held chunk edits _ place k named i &&
+            (input-type i && (dimension i && (flags i && space-held wide (at + 32) (at + 36) i))));
+        spent = taken;
+      }))))))
 
-  pub bindings-read : (wide : Bool) (n at : ℕ) (r : Room) → Leaves (λ bs r′. BindingsRead wide bs r r′) (readMany (readBinding chunk wide) (bindingStride wide) n at r)
+  pub bindings-read : (wide : Bool) (n at : ℕ) (r : Room) → Leaves (λ bs r′. BindingsRead wide bs r r′)
+      (readMany (readBinding chunk wide) (bindingStride wide) n at r)
   unfolding every
   bindings-read wide n at r =
       many-leaves (BindingRead wide) (BindingsRead wide) (λ r. record { held = refl; spent = none-spent r })
-      (λ b bs r r′ r″ one others. record { held = (λ i. one .held i && others .held i); spent = spent-as (spent-then 1 0 0 0 (length bs) 0 0 0 (one .spent) (others .spent)) (omega arith) refl refl refl })
+      (λ b bs r r′ r″ one others. record {
+        held = (λ i. one .held i && others .held i);
+        spent = spent-as
+            (spent-then 1 0 0 0 (length bs) 0 0 0 (one .spent) (others .spent)) (omega arith) refl refl refl;
+      })
       (readBinding chunk wide) (binding-read wide) (bindingStride wide) n at r
 
   -- A variable with its type.
@@ -108,7 +120,8 @@ module _ (chunk edits : Bytes) where
         record {
           held =
               (λ i. (string-held chunk edits _ name-place n named i
-              && (default-held chunk edits (wordAt chunk (at + 20)) (wordAt chunk (at + 8)) place k default i && longer-held chunk bytes sm5 (at + 24) (at + 28) (at + 32) (at + 36) i))
+              && (default-held chunk edits (wordAt chunk (at + 20)) (wordAt chunk (at + 8)) place k default i && longer-held chunk bytes sm5 (at + 24)
+              (at + 28) (at + 32) (at + 36) i))
               && typed .held i);
           spent = spent-as (spent-then 0 0 1 0 0 0 0 _ taken (typed .spent (inChunk name-place n) 0)) refl refl refl (omega arith);
         })))))
@@ -191,7 +204,8 @@ module _ (chunk : Bytes) where
       go true is-five =
           check-leaves (λ words r′. VersionRead words r′ × (r ≡ r′)) _ _ _ r (λ long.
           check-leaves (λ words r′. VersionRead words r′ × (r ≡ r′)) _ _ _ r (λ allowed.
-          let held = words-allowed (wordAt chunk 28) (wordAt chunk 32) (wordAt chunk 36) (wordAt chunk 40) (wordAt chunk 44) (wordAt chunk 48) (wordAt chunk 52) allowed in
+          let held = words-allowed (wordAt chunk 28) (wordAt chunk 32) (wordAt chunk 36) (wordAt chunk 40) (wordAt chunk 44) (wordAt chunk 48)
+          (wordAt chunk 52) allowed in
           ((λ i. is-five i && held i), refl)))
       go false is-five = (sym (ap (λ b. eqb major 4 || b) is-five ∙ or-false (eqb major 4)) ∙ known, refl)
 
@@ -203,16 +217,19 @@ pub record DefRead (chunk edits : Bytes) (d : ResourceDef Text Text) (r r′ : R
   pub bindings : every (bindingTests chunk edits (isWide (d .rd11))) (d .bindings) ≡ true
   pub buffers : every (nameChecked chunk edits) (map (λ b. b .name) (d .constant-buffers)) ≡ true
   pub variables : every (typedHeld chunk edits (isSm5 (d .rd11))) (allVariables (d .constant-buffers)) ≡ true
-  pub spent : Spent (length (d .bindings)) (length (d .constant-buffers)) (length (allVariables (d .constant-buffers))) (nodeCount (allVariables (d .constant-buffers))) r r′
+  pub spent : Spent (length (d .bindings)) (length (d .constant-buffers)) (length (allVariables (d .constant-buffers)))
+      (nodeCount (allVariables (d .constant-buffers))) r r′
 
 module _ (chunk edits : Bytes) (bytes : (i : ℕ) → getD chunk i 0 < 256) where
-  tables-read : length chunk ≤ chunkLimit → (creator : Text) → nameChecked chunk edits creator ≡ true → (words : Rd11) → versionReadable (wordAt chunk 16) words ≡ true
+  tables-read : length chunk ≤ chunkLimit → (creator : Text) → nameChecked chunk edits creator ≡ true → (words : Rd11)
+      → versionReadable (wordAt chunk 16) words ≡ true
       → (r : Room) → Leaves (λ d r′. DefRead chunk edits d r r′) (readTables chunk creator words r)
   unfolding readTables return
   tables-read short creator named words version r =
       let P : ResourceDef Text Text → Room → Type 0 = λ d r′. DefRead chunk edits d r r′ in
       then-leaves (λ bs r′. BindingsRead chunk edits (isWide words) bs r r′) P _ _ r (bindings-read chunk edits (isWide words) _ _ r) (λ bs r′ bindings.
-      then-leaves (λ fs r″. BuffersRead chunk edits bytes (isSm5 words) fs r′ r″) P _ _ r′ (buffers-read chunk edits bytes (isSm5 words) _ _ r′) (λ fs r″ buffers.
+      then-leaves (λ fs r″. BuffersRead chunk edits bytes (isSm5 words) fs r′ r″) P _ _ r′ (buffers-read chunk edits bytes (isSm5 words) _ _ r′)
+      (λ fs r″ buffers.
       record {
         short = short;
         version = version;

@@ -19,12 +19,13 @@ use Rattle.text.proofs.Written.{StringAt, cstring-found}
 use Rattle.reflection.specs.Strides.{memberStride}
 use Rattle.reflection.specs.declared.Text.{Text}
 use Rattle.reflection.specs.Reflection.{TypeDesc, Members, memberCount}
-use Rattle.reflection.specs.Nodes.{Node, nodesOf, nodesOfMembers}
+use Rattle.tables.specs.Nodes.{Node, nodesOf, nodesOfMembers}
 use Rattle.reflection.specs.Texts.{inChunk}
 use Rattle.reflection.proofs.Texts.{place-in-chunk}
 use Rattle.reflection.specs.Contents.{Bytes}
-use Rattle.reading.specs.Step.{Room, ReadStep, return, refuse}
-use Rattle.reading.specs.Read.{wordIf, readMembers, cstringOrEmpty, typeNameAt, numbersFrom, readType, defaultAt}
+use Rattle.read_spec.specs.Step.{Room, ReadStep, return, refuse}
+use Rattle.read_spec.specs.Read.{readMembers, cstringOrEmpty, typeNameAt, numbersFrom, readType, defaultAt}
+use Rattle.words.specs.Words.{wordIf}
 use Rattle.readable.specs.Readable.{every, nameReadable, zeroUnless, numbersReadable}
 use Rattle.readable.specs.Checks.{nameChecked, defaultChecked}
 use Rattle.readable.proofs.RecordTests.{name-in-chunk}
@@ -79,7 +80,8 @@ module _ (chunk edits : Bytes) where
       go true fits f =
           let here : suc offset ≡ place = cc in
           let long : size ≡ k = cc in
-          placed-held size place k (omega (arith, inside-fits (length chunk) (suc offset) size fits)) (ap (λ b. eqb k 0 || b) (eq-eqb k size (sym long)) ∙ or-true (eqb k 0))
+          placed-held size place k (omega (arith, inside-fits (length chunk) (suc offset) size fits))
+          (ap (λ b. eqb k 0 || b) (eq-eqb k size (sym long)) ∙ or-true (eqb k 0))
       go false fits f = absurd (let apart : _≡_ {A = ℕ} 0 1 = cc in omega arith)
 
 module _ (chunk : Bytes) (bytes : (i : ℕ) → getD chunk i 0 < 256) where
@@ -138,7 +140,8 @@ module _ (chunk edits : Bytes) (sm5 : Bool) where
       record {
         held = (λ i. (typed .held i && string-held chunk edits _ place k named i) && others .held i);
         count = ap suc (others .count);
-        spent = nodes-spent (nodesOf (inChunk place k) (wordAt chunk (at + 8)) t) (nodesOfMembers ms) r r′ r″ (typed .spent (inChunk place k) (wordAt chunk (at + 8))) (others .spent);
+        spent = nodes-spent (nodesOf (inChunk place k) (wordAt chunk (at + 8)) t) (nodesOfMembers ms) r r′ r″
+            (typed .spent (inChunk place k) (wordAt chunk (at + 8))) (others .spent);
       }))))
 
   node-spent : (n : ℕ) (r r′ r″ : Room) → Spent 0 0 0 1 r r′ → Spent 0 0 0 n r′ r″ → Spent 0 0 0 (suc n) r r″
@@ -150,7 +153,8 @@ module _ (chunk edits : Bytes) (sm5 : Bool) where
         types = omega (arith, p .types, q .types);
       }
 
-  pub type-read : ((i : ℕ) → getD chunk i 0 < 256) → (levels : ℕ) (path : List ℕ) (at : ℕ) (r : Room) → Leaves (TypeRead levels r) (readType chunk sm5 levels path at r)
+  pub type-read : ((i : ℕ) → getD chunk i 0 < 256) → (levels : ℕ) (path : List ℕ) (at : ℕ) (r : Room)
+      → Leaves (TypeRead levels r) (readType chunk sm5 levels path at r)
   unfolding readType return refuse typeHeld nodesOf
   type-read bytes zero path at r = tt
   type-read bytes (suc levels) path at r =

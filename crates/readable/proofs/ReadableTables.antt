@@ -15,18 +15,16 @@ use Rattle.reflection.specs.declared.Text.{Text}
 use Rattle.reflection.specs.declared.ResourceDef.{ResourceDef as Header}
 use Rattle.reflection.specs.Texts.{textBytes}
 use Rattle.reflection.specs.Reflection.{mapBinding, mapVariable, mapBuffer, ResourceDef, mapDef, isSm5, isWide}
-use Rattle.reflection.specs.Records.{bindingWidth, bufferWidth, variableWidth, typeWidth, typeAt, variableAt, bufferAt, bindingAt}
-use Rattle.reflection.specs.Tables.{allVariables}
-use Rattle.reflection.specs.Decode.{firstRecords, nodeFromTable, variablesFrom, buffersFrom, bindingFromTable, decode}
+use Rattle.tables.specs.Records.{bindingWidth, bufferWidth, variableWidth, typeWidth, typeAt, variableAt, bufferAt, bindingAt}
+use Rattle.reflection.specs.Reflection.{allVariables}
+use Rattle.tables.specs.Decode.{firstRecords, nodeFromTable, variablesFrom, buffersFrom, bindingFromTable, decode}
 use Rattle.reflection.specs.Contents.{Bytes, contents, innerNames, outerNames}
-use Rattle.readable.specs.Readable.{readable, tableContents, isReadable, readableContents, rd11Absent, textsInPlace, roomKept, nodeCount, every, variableReadable, bindingReadable, nameReadable, versionReadable}
-use Rattle.readable.proofs.Bools.{then-was, check-was}
-use Rattle.readable.proofs.Counts.{length-records, variables-used, buffers-taken, map-node-count}
+use Rattle.tables.proofs.Options.{some-was, then-was, check-was}
+use Rattle.tables.proofs.RecordLists.{length-records}
+use Rattle.readable.specs.Readable.{readable, tableContents, isReadable, readableContents, rd11Absent, textsInPlace}
+use Rattle.readable.specs.Readable.{roomKept, nodeCount, every, variableReadable, bindingReadable, nameReadable, versionReadable}
+use Rattle.readable.proofs.Counts.{variables-used, buffers-taken, map-node-count}
 pub use Rattle.readable.proofs.Counts.{variables-map}
-
--- What stands in an option.
-pub some-was : {A : Type 0} {a b : A} → some a ≡ some b → a ≡ b
-some-was {a = a} e = ap (λ o. elim o [ none ↦ a | some x ↦ x ]) e
 
 -- What the tables of a readable reflection hold, and how much.
 pub record Readable (chunk edits : Bytes) (h : Header) (bindings buffers variables types : List ℕ) : Type 0 where
@@ -77,12 +75,16 @@ decode-counts h bindings buffers variables types r e =
     let used = variables-used vs (map nodeFromTable ts) typed with-types in
     let all = buffers-taken cs typed filled in-buffers in
     record {
-      binding-count = ap (λ (q : ResourceDef Text Text). length (q .bindings)) (sym is) ∙ length-map bs bindingFromTable ∙ first-was bindingWidth bindingAt bindings _ bs b .1;
-      buffer-count = ap (λ (q : ResourceDef Text Text). length (q .constant-buffers)) (sym is) ∙ all .buffers ∙ first-was bufferWidth bufferAt buffers _ cs c .1;
+      binding-count = ap (λ (q : ResourceDef Text Text). length (q .bindings)) (sym is) ∙ length-map bs bindingFromTable
+          ∙ first-was bindingWidth bindingAt bindings _ bs b .1;
+      buffer-count = ap (λ (q : ResourceDef Text Text). length (q .constant-buffers)) (sym is) ∙ all .buffers
+          ∙ first-was bufferWidth bufferAt buffers _ cs c .1;
       variable-count =
-          ap (λ (q : ResourceDef Text Text). length (allVariables (q .constant-buffers))) (sym is) ∙ ap length (all .variables) ∙ used .variables ∙ first-was variableWidth variableAt variables _ vs v .1;
+          ap (λ (q : ResourceDef Text Text). length (allVariables (q .constant-buffers))) (sym is) ∙ ap length (all .variables) ∙ used .variables
+          ∙ first-was variableWidth variableAt variables _ vs v .1;
       type-count =
-          ap (λ (q : ResourceDef Text Text). nodeCount (allVariables (q .constant-buffers))) (sym is) ∙ ap nodeCount (all .variables) ∙ used .nodes ∙ length-map ts nodeFromTable
+          ap (λ (q : ResourceDef Text Text). nodeCount (allVariables (q .constant-buffers))) (sym is) ∙ ap nodeCount (all .variables) ∙ used .nodes
+          ∙ length-map ts nodeFromTable
           ∙ first-was typeWidth typeAt types _ ts t .1;
       bindings-inside = first-was bindingWidth bindingAt bindings _ bs b .0;
       buffers-inside = first-was bufferWidth bufferAt buffers _ cs c .0;
@@ -107,7 +109,8 @@ readable-room c e =
     and-true vs (roomKept c)
     (and-true bs (vs && roomKept c)
     (and-true inner (bs && (vs && roomKept c))
-    (and-true outer (inner && (bs && (vs && roomKept c))) (and-true (versionReadable (c .target-version) (c .rd11)) (outer && (inner && (bs && (vs && roomKept c)))) e .1) .1) .1) .1)
+    (and-true outer (inner && (bs && (vs && roomKept c))) (and-true (versionReadable (c .target-version) (c .rd11))
+    (outer && (inner && (bs && (vs && roomKept c)))) e .1) .1) .1) .1)
     .1
 
 contents-room : (chunk edits : Bytes) (r : ResourceDef Text Text) → roomKept (contents chunk edits r) ≡ true → Kept r

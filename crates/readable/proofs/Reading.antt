@@ -13,18 +13,22 @@ use Rattle.text.proofs.Bools.{and-true}
 use Rattle.reflection.specs.Limits.{bindingRoom, bufferRoom, variableRoom, typeRoom, chunkLimit}
 use Rattle.reflection.specs.declared.Text.{Text}
 use Rattle.reflection.specs.Outcome.{ok}
-use Rattle.reflection.specs.Reflection.{TypeDesc, typeDesc, Members, noMember, member, CBufferVariable, ResourceDef, Rd11, noRd11, rd11, memberCount, majorOf, isSm5, identifierOf, strideOf, slotsOf}
-use Rattle.reflection.specs.Nodes.{typeLevels}
-use Rattle.reflection.proofs.Levels.{Fits, FitsAll}
-use Rattle.reflection.specs.Tables.{padded, allVariables, bindingRows, bufferRows, variableRows, typeRows, headerOf}
-use Rattle.reflection.specs.Decode.{guard, rd11FromHeader}
-use Rattle.reflection.proofs.Levels.{TypesFit}
-use Rattle.reflection.proofs.Nodes.{then-some}
-use Rattle.reflection.proofs.Decode.{rd11Of, rd11-of-header, decode-encoded}
+use Rattle.reflection.specs.Reflection.{TypeDesc, typeDesc, Members, noMember, member, CBufferVariable, ResourceDef, Rd11, noRd11, rd11, memberCount}
+use Rattle.reflection.specs.Reflection.{majorOf, isSm5, identifierOf, strideOf, slotsOf}
+use Rattle.tables.specs.Nodes.{typeLevels}
+use Rattle.tables.proofs.Levels.{Fits, FitsAll}
+use Rattle.tables.specs.Tables.{padded, bindingRows, bufferRows, variableRows, typeRows, headerOf}
+use Rattle.reflection.specs.Reflection.{allVariables}
+use Rattle.tables.specs.Decode.{guard}
+use Rattle.reflection.specs.Rd11.{rd11FromHeader}
+use Rattle.tables.proofs.Levels.{TypesFit}
+use Rattle.tables.proofs.Nodes.{then-some}
+use Rattle.tables.proofs.Decode.{rd11Of, rd11-of-header, decode-encoded}
 use Rattle.reflection.specs.Contents.{Bytes, contents}
-use Rattle.reading.specs.Step.{Room, roomOf}
-use Rattle.reading.specs.Read.{readChunk, read}
-use Rattle.readable.specs.Readable.{every, zeroUnless, versionReadable, numbersReadable, nodeCount, roomKept, readableContents, rd11Absent, textsInPlace, tableContents, isReadable, readable}
+use Rattle.read_spec.specs.Step.{Room, roomOf}
+use Rattle.read_spec.specs.Read.{readChunk, read}
+use Rattle.readable.specs.Readable.{every, zeroUnless, versionReadable, numbersReadable, nodeCount, roomKept, readableContents, rd11Absent}
+use Rattle.readable.specs.Readable.{textsInPlace, tableContents, isReadable, readable}
 use Rattle.readable.specs.Checks.{nameChecked, defaultChecked}
 use Rattle.readable.proofs.TypeTests.{typeHeld, membersHeld}
 use Rattle.readable.proofs.Parts.{typedHeld, tests, tests-by-part}
@@ -52,7 +56,8 @@ module _ (chunk edits : Bytes) (sm5 : Bool) where
     held-fits (typeDesc k n ms) zero e = absurd (let apart : _≡_ {A = ℕ} 0 1 = cc in omega arith)
     held-fits (typeDesc k n ms) (suc levels) e =
         held-fits-all ms levels
-        (and-true (numbersReadable sm5 k && (leb (memberCount ms) 65535 && (zeroUnless sm5 (n .length ∷ []) && nameChecked chunk edits n))) (membersHeld chunk edits sm5 ms levels) e .1)
+        (and-true (numbersReadable sm5 k && (leb (memberCount ms) 65535 && (zeroUnless sm5 (n .length ∷ []) && nameChecked chunk edits n)))
+        (membersHeld chunk edits sm5 ms levels) e .1)
 
     held-fits-all : (ms : Members Text) (levels : ℕ) → membersHeld chunk edits sm5 ms levels ≡ true → FitsAll ms levels
     held-fits-all noMember levels e = tt
@@ -67,7 +72,8 @@ module _ (chunk edits : Bytes) (sm5 : Bool) where
       let (first, others) = and-true (typedHeld chunk edits sm5 v) (every (typedHeld chunk edits sm5) vs) e in
       let own =
       nameChecked chunk edits (v .name)
-      && (defaultChecked chunk edits (v .size) (v .default-value) && zeroUnless sm5 (v .texture-start ∷ v .texture-size ∷ v .sampler-start ∷ v .sampler-size ∷ [])) in
+      && (defaultChecked chunk edits (v .size) (v .default-value) && zeroUnless sm5
+      (v .texture-start ∷ v .texture-size ∷ v .sampler-start ∷ v .sampler-size ∷ [])) in
       (held-fits (v .var-type) typeLevels (and-true own (typeHeld chunk edits sm5 (v .var-type) typeLevels) first .1), types-fit vs others)
 
 -- A header has the RD11 words of its reflection, where the version is readable.
@@ -99,7 +105,8 @@ room-kept chunk edits d r r′ full is =
     let vs = allVariables (d .constant-buffers) in
     (λ i. le-leb (length (d .bindings)) bindingRoom (omega (arith, full .bindings, is .spent .bindings)) i
     && (le-leb (length (d .constant-buffers)) bufferRoom (omega (arith, full .buffers, is .spent .buffers)) i
-    && (le-leb (length vs) variableRoom (omega (arith, full .variables, is .spent .variables)) i && le-leb (nodeCount vs) typeRoom (omega (arith, full .types, is .spent .types)) i)))
+    && (le-leb (length vs) variableRoom (omega (arith, full .variables, is .spent .variables)) i && le-leb (nodeCount vs) typeRoom
+    (omega (arith, full .types, is .spent .types)) i)))
 
 -- A chunk of bytes that reads as d, in room that is at most the full room; the text of edits is any, since all texts lie in the chunk.
 module _
@@ -117,7 +124,8 @@ module _
   read-tests =
       let is : DefRead chunk edits d room (was-read .0) = was-read .1 in
       tests-by-part chunk edits d
-      ∙ (λ i. ((is .version i && is .creator i) && is .bindings i) && (is .buffers i && (is .variables i && room-kept chunk edits d room (was-read .0) full is i)))
+      ∙ (λ i. ((is .version i && is .creator i) && is .bindings i) && (is .buffers i &&
+      (is .variables i && room-kept chunk edits d room (was-read .0) full is i)))
 
   -- The contents of what was read are readable, and its texts lie in the chunk.
   pub read-contents : readableContents (contents chunk edits d) ≡ true
@@ -128,16 +136,19 @@ module _
 
   module _ (edits-short : length edits ≤ chunkLimit) (nb nf nv nt : ℕ) where
     -- The tables that reading leaves hold it.
-    pub read-held : tableContents chunk edits (headerOf d) (padded nb (bindingRows d)) (padded nf (bufferRows d)) (padded nv (variableRows d)) (padded nt (typeRows d)) ≡ some (contents chunk edits d)
+    pub read-held : tableContents chunk edits (headerOf d) (padded nb (bindingRows d)) (padded nf (bufferRows d)) (padded nv (variableRows d))
+        (padded nt (typeRows d)) ≡ some (contents chunk edits d)
     unfolding tableContents guard
     read-held =
         let is : DefRead chunk edits d room (was-read .0) = was-read .1 in
         then-some _ (ap guard (λ i. le-leb (length chunk) chunkLimit (is .short) i && le-leb (length edits) chunkLimit edits-short i))
         (then-some _ (ap guard (absent-of-header d (is .version)))
-        (then-some _ (decode-encoded d nb nf nv nt (types-fit chunk edits (isSm5 (d .rd11)) (allVariables (d .constant-buffers)) (is .variables)) (header-words d (is .version)))
+        (then-some _ (decode-encoded d nb nf nv nt (types-fit chunk edits (isSm5 (d .rd11)) (allVariables (d .constant-buffers)) (is .variables))
+        (header-words d (is .version)))
         (then-some _ (ap guard read-in-place) refl)))
 
     -- So they are readable.
-    pub read-readable : readable chunk edits (headerOf d) (padded nb (bindingRows d)) (padded nf (bufferRows d)) (padded nv (variableRows d)) (padded nt (typeRows d)) ≡ true
+    pub read-readable : readable chunk edits (headerOf d) (padded nb (bindingRows d)) (padded nf (bufferRows d)) (padded nv (variableRows d))
+        (padded nt (typeRows d)) ≡ true
     unfolding readable
     read-readable = ap isReadable read-held ∙ read-contents

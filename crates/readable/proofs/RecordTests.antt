@@ -10,14 +10,14 @@ use lib.ListN.{length}
 use Rattle.words.specs.Parts.{inside, part}
 use Rattle.codes.specs.Table.{known}
 use Rattle.codes.specs.Microsoft.{inputTypes, srvDimensions}
-use Rattle.codes.specs.Flags.{bindingFlagsAllowed}
+use Rattle.flags.specs.Flags.{bindingFlagsAllowed}
 use Rattle.reflection.specs.declared.Text.{Text}
 use Rattle.reflection.specs.declared.ResourceBinding.{ResourceBinding as BindingRecord}
 use Rattle.reflection.specs.declared.CBufferDef.{CBufferDef as BufferRecord}
 use Rattle.reflection.specs.declared.CBufferVariable.{CBufferVariable as VariableRecord}
 use Rattle.reflection.specs.declared.TypeDesc.{TypeDesc as TypeRecord}
-use Rattle.reflection.specs.Records.{bindingAt, bufferAt}
-use Rattle.reflection.specs.Decode.{recordsFrom, bindingFromTable, nodeFromTable}
+use Rattle.tables.specs.Records.{bindingAt, bufferAt}
+use Rattle.tables.specs.Decode.{recordsFrom, bindingFromTable, nodeFromTable}
 use Rattle.reflection.specs.Contents.{Bytes}
 use Rattle.reflection.specs.Texts.{textBytes}
 use Rattle.reflection.proofs.Texts.{place-in-chunk, place-in-edits, place-nowhere, bytes-in-chunk, bytes-in-edits}
@@ -47,7 +47,8 @@ pub binding-tested : (chunk edits : Bytes) (wide : Bool) (b : BindingRecord) →
     && (known srvDimensions (b .dimension) && (bindingFlagsAllowed (b .flags .0) && (wide || (eqb (b .space) 0 && eqb (b .id) 0))))))
 unfolding bindingChecked bindingReadable bindingFromTable
 binding-tested chunk edits wide b =
-    ap (λ z. nameChecked chunk edits (b .name) && (known inputTypes (b .«input_type») && (known srvDimensions (b .dimension) && (bindingFlagsAllowed (b .flags .0) && z))))
+    ap (λ z. nameChecked chunk edits (b .name) && (known inputTypes (b .«input_type») &&
+    (known srvDimensions (b .dimension) && (bindingFlagsAllowed (b .flags .0) && z))))
     (two-zeros wide (b .space) (b .id))
 
 pub variable-tested : (chunk edits : Bytes) (sm5 : Bool) (v : VariableRecord) → variableChecked chunk edits sm5 v
@@ -74,7 +75,8 @@ pub node-tested : (chunk edits : Bytes) (sm5 inner : Bool) (t : TypeRecord) → 
     && ((sm5 || eqb (t .name .length) 0) && (nameChecked chunk edits (t .name) && (not inner || nameChecked chunk edits (t .«member_name»))))))
 unfolding nodeChecked nodeFromTable
 node-tested chunk edits sm5 inner t =
-    ap (λ z. numbersReadable sm5 (nodeFromTable t .numbers) && (leb (t .«member_count») 65535 && (z && (nameChecked chunk edits (t .name) && (not inner || nameChecked chunk edits (t .«member_name»))))))
+    ap (λ z. numbersReadable sm5 (nodeFromTable t .numbers) && (leb (t .«member_count») 65535 &&
+    (z && (nameChecked chunk edits (t .name) && (not inner || nameChecked chunk edits (t .«member_name»))))))
     (one-zero sm5 (t .name .length))
 
 -- The records from i on.
@@ -119,21 +121,26 @@ module _ (chunk edits : Bytes) where
         ≡ (nameChecked chunk edits (b .name) && (leb (b .«variable_count») left && buffersChecked chunk edits t (i + 1) (n - 1) (left - b .«variable_count»)))
     next-buffer =
         buffers-next t i n left some-left
-        ∙ ap (λ (b : BufferRecord). nameChecked chunk edits (b .name) && (leb (b .«variable_count») left && buffersChecked chunk edits t (i + 1) (n - 1) (left - b .«variable_count»))) (sym read)
+        ∙ ap (λ (b : BufferRecord). nameChecked chunk edits (b .name) &&
+        (leb (b .«variable_count») left && buffersChecked chunk edits t (i + 1) (n - 1) (left - b .«variable_count»))) (sym read)
 
     pub buffer-name-fails : nameChecked chunk edits (b .name) ≡ false → buffersChecked chunk edits t i n left ≡ false
-    buffer-name-fails e = next-buffer ∙ ap (λ z. z && (leb (b .«variable_count») left && buffersChecked chunk edits t (i + 1) (n - 1) (left - b .«variable_count»))) e
+    buffer-name-fails e = next-buffer ∙ ap (λ z. z && (leb (b .«variable_count») left && buffersChecked chunk edits t (i + 1) (n - 1)
+        (left - b .«variable_count»))) e
 
     pub buffer-count-fails : nameChecked chunk edits (b .name) ≡ true → left < b .«variable_count» → buffersChecked chunk edits t i n left ≡ false
-    buffer-count-fails e h = next-buffer ∙ (λ j. e j && (lt-leb (b .«variable_count») left h j && buffersChecked chunk edits t (i + 1) (n - 1) (left - b .«variable_count»)))
+    buffer-count-fails e h = next-buffer ∙ (λ j. e j && (lt-leb (b .«variable_count») left h j && buffersChecked chunk edits t (i + 1) (n - 1)
+        (left - b .«variable_count»)))
 
     pub buffer-passes : nameChecked chunk edits (b .name) ≡ true → b .«variable_count» ≤ left
         → buffersChecked chunk edits t i n left ≡ buffersChecked chunk edits t (i + 1) (n - 1) (left - b .«variable_count»)
-    buffer-passes e h = next-buffer ∙ (λ j. e j && (le-leb (b .«variable_count») left h j && buffersChecked chunk edits t (i + 1) (n - 1) (left - b .«variable_count»)))
+    buffer-passes e h = next-buffer ∙ (λ j. e j && (le-leb (b .«variable_count») left h j && buffersChecked chunk edits t (i + 1) (n - 1)
+        (left - b .«variable_count»)))
 
 -- A name by its source.
 module _ (chunk edits : Bytes) (t : Text) where
-  pub name-in-chunk : t .source ≡ 0 → nameChecked chunk edits t ≡ (inside (length chunk) (t .place) (t .length) && nameReadable (part chunk (t .place) (t .length)))
+  pub name-in-chunk : t .source ≡ 0 → nameChecked chunk edits t ≡ (inside (length chunk) (t .place) (t .length) && nameReadable
+      (part chunk (t .place) (t .length)))
   unfolding nameChecked
   name-in-chunk e = (λ i. place-in-chunk chunk edits t e i && nameReadable (bytes-in-chunk chunk edits t e i))
 

@@ -14,14 +14,18 @@ use Rattle.reflection.specs.declared.ResourceBinding.{ResourceBinding as Bindin
 use Rattle.reflection.specs.declared.CBufferDef.{CBufferDef as BufferRecord}
 use Rattle.reflection.specs.declared.CBufferVariable.{CBufferVariable as VariableRecord}
 use Rattle.reflection.specs.Reflection.{CBufferVariable, CBufferDef, ResourceDef, isSm5, isWide}
-use Rattle.reflection.specs.Nodes.{Node, _>>=_}
-use Rattle.reflection.specs.Records.{bindingWidth, bufferWidth, variableWidth, typeWidth, bindingAt, bufferAt, variableAt, typeAt}
-use Rattle.reflection.specs.Decode.{recordsFrom, firstRecords, bindingFromTable, nodeFromTable, variablesFrom, buffersFrom, rd11FromHeader, decode}
+use Rattle.tables.specs.Nodes.{Node, _>>=_}
+use Rattle.tables.specs.Records.{bindingWidth, bufferWidth, variableWidth, typeWidth, bindingAt, bufferAt, variableAt, typeAt}
+use Rattle.tables.specs.Decode.{recordsFrom, firstRecords, bindingFromTable, nodeFromTable, variablesFrom, buffersFrom, decode}
+use Rattle.reflection.specs.Rd11.{rd11FromHeader}
 use Rattle.reflection.specs.Contents.{Bytes}
-use Rattle.readable.specs.Readable.{every, versionReadable, nodeCount, roomKept, readableContents, rd11Absent, textsInPlace, tableContents, isReadable, readable}
-use Rattle.readable.specs.Checks.{passes, nameChecked, countChecked, countsChecked, headerChecked, bindingChecked, bindingsChecked, buffersTake, buffersChecked, variablesTake, nodesFrom, variablesChecked, recordsChecked}
+use Rattle.tables.proofs.RecordLists.{length-records}
+use Rattle.readable.specs.Readable.{every, versionReadable, nodeCount, roomKept, readableContents}
+use Rattle.readable.specs.Readable.{rd11Absent, textsInPlace, tableContents, isReadable, readable}
+use Rattle.readable.specs.Checks.{passes, nameChecked, countChecked, countsChecked, headerChecked, bindingChecked}
+use Rattle.readable.specs.Checks.{bindingsChecked, buffersTake, buffersChecked, variablesTake, nodesFrom, variablesChecked, recordsChecked}
 use Rattle.readable.proofs.Bools.{tests-in-order, holds-check, holds-and, holds-same, holds-then, every-map}
-use Rattle.readable.proofs.Counts.{AllUsed, AllTaken, length-records, variables-used, buffers-taken}
+use Rattle.readable.proofs.Counts.{AllUsed, AllTaken, variables-used, buffers-taken}
 use Rattle.readable.proofs.Parts.{buffers-take, typedHeld, variables-take, bindingTests, tests, tests-by-part}
 
 is-holds : (o : Option (ResourceDef Bytes Bytes)) → isReadable o ≡ passes readableContents o
@@ -78,7 +82,8 @@ module _ (chunk edits : Bytes) (h : Header) where
   -- Buffers that were built from all variables.
   filled : (bs : List BindingRecord) (cs : List BufferRecord) (vs : List (CBufferVariable Text Text)) (fs : List (CBufferDef Text Text)) → AllTaken cs vs fs
       → tests chunk edits (made bs fs)
-      ≡ (((root && every (bindingChecked chunk edits wide) bs) && (every (typedHeld chunk edits sm5) vs && room (length bs) (length cs) (length vs) (nodeCount vs)))
+      ≡ (((root && every (bindingChecked chunk edits wide) bs) && (every (typedHeld chunk edits sm5) vs
+      && room (length bs) (length cs) (length vs) (nodeCount vs)))
       && every (nameChecked chunk edits) (map (λ b. b .name) fs))
   unfolding roomKept
   filled bs cs vs fs taken =
@@ -93,10 +98,12 @@ module _ (chunk edits : Bytes) (h : Header) where
   -- The buffers of variables that were built.
   buffers-filled : (bs : List BindingRecord) (cs : List BufferRecord) (vs : List (CBufferVariable Text Text))
       → passes (λ fs. tests chunk edits (made bs fs)) (buffersFrom cs vs)
-      ≡ (((root && every (bindingChecked chunk edits wide) bs) && (every (typedHeld chunk edits sm5) vs && room (length bs) (length cs) (length vs) (nodeCount vs)))
+      ≡ (((root && every (bindingChecked chunk edits wide) bs) && (every (typedHeld chunk edits sm5) vs
+      && room (length bs) (length cs) (length vs) (nodeCount vs)))
       && buffersTake chunk edits cs (length vs))
   buffers-filled bs cs vs =
-      let others = (root && every (bindingChecked chunk edits wide) bs) && (every (typedHeld chunk edits sm5) vs && room (length bs) (length cs) (length vs) (nodeCount vs)) in
+      let others = (root && every (bindingChecked chunk edits wide) bs)
+      && (every (typedHeld chunk edits sm5) vs && room (length bs) (length cs) (length vs) (nodeCount vs)) in
       let named : List (CBufferDef Text Text) → Bool = λ fs. every (nameChecked chunk edits) (map (λ b. b .name) fs) in
       holds-same (λ fs. tests chunk edits (made bs fs)) (λ fs. others && named fs) (buffersFrom cs vs) (λ fs e. filled bs cs vs fs (buffers-taken cs vs fs e))
       ∙ holds-and others named (buffersFrom cs vs)
@@ -105,16 +112,21 @@ module _ (chunk edits : Bytes) (h : Header) where
   -- The variables, and then their buffers.
   variables-filled : (bs : List BindingRecord) (cs : List BufferRecord) (rs : List VariableRecord) (ns : List (Node Text))
       → passes (λ vs. passes (λ fs. tests chunk edits (made bs fs)) (buffersFrom cs vs)) (variablesFrom rs ns)
-      ≡ ((((root && every (bindingChecked chunk edits wide) bs) && room (length bs) (length cs) (length rs) (length ns)) && buffersTake chunk edits cs (length rs))
+      ≡ ((((root && every (bindingChecked chunk edits wide) bs) && room (length bs) (length cs) (length rs) (length ns))
+      && buffersTake chunk edits cs (length rs))
       && variablesTake chunk edits sm5 rs ns)
   variables-filled bs cs rs ns =
-      let others = ((root && every (bindingChecked chunk edits wide) bs) && room (length bs) (length cs) (length rs) (length ns)) && buffersTake chunk edits cs (length rs) in
-      holds-same (λ vs. passes (λ fs. tests chunk edits (made bs fs)) (buffersFrom cs vs)) (λ vs. others && every (typedHeld chunk edits sm5) vs) (variablesFrom rs ns)
+      let others = ((root && every (bindingChecked chunk edits wide) bs) && room (length bs) (length cs) (length rs) (length ns))
+      && buffersTake chunk edits cs (length rs) in
+      holds-same (λ vs. passes (λ fs. tests chunk edits (made bs fs)) (buffersFrom cs vs)) (λ vs. others && every (typedHeld chunk edits sm5) vs)
+      (variablesFrom rs ns)
       (λ vs e. let used : AllUsed rs ns vs = variables-used rs ns vs e in
       buffers-filled bs cs vs
-      ∙ (λ i. ((root && every (bindingChecked chunk edits wide) bs) && (every (typedHeld chunk edits sm5) vs && room (length bs) (length cs) (used .variables i) (used .nodes i)))
+      ∙ (λ i. ((root && every (bindingChecked chunk edits wide) bs) && (every (typedHeld chunk edits sm5) vs
+      && room (length bs) (length cs) (used .variables i) (used .nodes i)))
       && buffersTake chunk edits cs (used .variables i))
-      ∙ types-last (root && every (bindingChecked chunk edits wide) bs) (every (typedHeld chunk edits sm5) vs) (room (length bs) (length cs) (length rs) (length ns)) (buffersTake chunk edits cs (length rs)))
+      ∙ types-last (root && every (bindingChecked chunk edits wide) bs) (every (typedHeld chunk edits sm5) vs)
+      (room (length bs) (length cs) (length rs) (length ns)) (buffersTake chunk edits cs (length rs)))
       ∙ holds-and others (every (typedHeld chunk edits sm5)) (variablesFrom rs ns)
       ∙ ap (λ b. others && b) (variables-take chunk edits sm5 rs ns)
 
@@ -142,15 +154,19 @@ module _ (chunk edits : Bytes) (h : Header) where
     unfolding decode
     decode-tested =
         first-then (tests chunk edits) bindingWidth bindingAt bindings (h .«binding_count») _
-        ∙ ap (λ b. leb (h .«binding_count») (length bindings / bindingWidth) && b) (first-then (tests chunk edits) bufferWidth bufferAt buffers (h .«buffer_count») _
-        ∙ ap (λ b. leb (h .«buffer_count») (length buffers / bufferWidth) && b) (first-then (tests chunk edits) variableWidth variableAt variables (h .«variable_count») _
+        ∙ ap (λ b. leb (h .«binding_count») (length bindings / bindingWidth) && b)
+        (first-then (tests chunk edits) bufferWidth bufferAt buffers (h .«buffer_count») _
+        ∙ ap (λ b. leb (h .«buffer_count») (length buffers / bufferWidth) && b)
+        (first-then (tests chunk edits) variableWidth variableAt variables (h .«variable_count») _
         ∙ ap (λ b. leb (h .«variable_count») (length variables / variableWidth) && b) (first-then (tests chunk edits) typeWidth typeAt types (h .«type_count») _
         ∙ ap (λ b. leb (h .«type_count») (length types / typeWidth) && b)
         (holds-then (tests chunk edits) (variablesFrom vs ns) _
-        ∙ holds-same _ (λ typed. passes (λ fs. tests chunk edits (made bs fs)) (buffersFrom cs typed)) (variablesFrom vs ns) (λ typed e. holds-then (tests chunk edits) (buffersFrom cs typed) _)
+        ∙ holds-same _ (λ typed. passes (λ fs. tests chunk edits (made bs fs)) (buffersFrom cs typed)) (variablesFrom vs ns)
+        (λ typed e. holds-then (tests chunk edits) (buffersFrom cs typed) _)
         ∙ variables-filled bs cs vs ns
         ∙ (λ i. (((root && every (bindingChecked chunk edits wide) bs)
-        && room (length-records (bindingAt bindings) 0 (h .«binding_count») i) (length-records (bufferAt buffers) 0 (h .«buffer_count») i) (variables-counted i) (nodes-counted i))
+        && room (length-records (bindingAt bindings) 0 (h .«binding_count») i) (length-records (bufferAt buffers) 0 (h .«buffer_count») i)
+        (variables-counted i) (nodes-counted i))
         && buffersTake chunk edits cs (variables-counted i)) && variablesTake chunk edits sm5 vs ns)))))
       where
         variables-counted : length vs ≡ h .«variable_count»
@@ -161,7 +177,8 @@ module _ (chunk edits : Bytes) (h : Header) where
 
     -- Readable, as the functions test it.
     pub readable-split : readable chunk edits h bindings buffers variables types
-        ≡ (headerChecked chunk edits h && (countsChecked h (length bindings) (length buffers) (length variables) (length types) && recordsChecked chunk edits h bindings buffers variables types))
+        ≡ (headerChecked chunk edits h && (countsChecked h (length bindings) (length buffers) (length variables) (length types)
+        && recordsChecked chunk edits h bindings buffers variables types))
     unfolding readable tableContents headerChecked countsChecked countChecked recordsChecked bindingsChecked buffersChecked variablesChecked nodesFrom
     readable-split =
         is-holds (tableContents chunk edits h bindings buffers variables types)
@@ -170,7 +187,10 @@ module _ (chunk edits : Bytes) (h : Header) where
         ∙ ap (λ b. rd11Absent h && b) (holds-then readableContents (decode h bindings buffers variables types) _
         ∙ holds-same _ (tests chunk edits) (decode h bindings buffers variables types) (λ r e. holds-check readableContents (textsInPlace chunk edits r) _)
         ∙ decode-tested))
-        ∙ in-order (leb (length chunk) chunkLimit && leb (length edits) chunkLimit) (rd11Absent h) (versionReadable (h .«target_version») (rd11FromHeader h)) (nameChecked chunk edits (h .creator))
-        (leb (h .«binding_count») (length bindings / bindingWidth)) (leb (h .«binding_count») bindingRoom) (leb (h .«buffer_count») (length buffers / bufferWidth)) (leb (h .«buffer_count») bufferRoom)
-        (leb (h .«variable_count») (length variables / variableWidth)) (leb (h .«variable_count») variableRoom) (leb (h .«type_count») (length types / typeWidth)) (leb (h .«type_count») typeRoom)
+        ∙ in-order (leb (length chunk) chunkLimit && leb (length edits) chunkLimit) (rd11Absent h) (versionReadable (h .«target_version») (rd11FromHeader h))
+        (nameChecked chunk edits (h .creator))
+        (leb (h .«binding_count») (length bindings / bindingWidth)) (leb (h .«binding_count») bindingRoom)
+        (leb (h .«buffer_count») (length buffers / bufferWidth)) (leb (h .«buffer_count») bufferRoom)
+        (leb (h .«variable_count») (length variables / variableWidth)) (leb (h .«variable_count») variableRoom)
+        (leb (h .«type_count») (length types / typeWidth)) (leb (h .«type_count») typeRoom)
         (every (bindingChecked chunk edits wide) bs) (buffersTake chunk edits cs (h .«variable_count»)) (variablesTake chunk edits sm5 vs ns)

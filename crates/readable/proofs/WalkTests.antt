@@ -8,9 +8,9 @@ use native.Mathlib.Omega.{arith}
 use borrow.Author.Tests.{eqb-true, eqb-false, eq-eqb, ne-eqb}
 use lib.Dec.{eqb}
 use Rattle.reflection.specs.declared.Text.{Text}
-use Rattle.reflection.specs.Nodes.{Node, _>>=_, typeLevels}
-use Rattle.reflection.specs.Records.{variableAt, typeAt}
-use Rattle.reflection.specs.Decode.{guard, recordsFrom, nodeFromTable}
+use Rattle.tables.specs.Nodes.{Node, _>>=_, typeLevels}
+use Rattle.tables.specs.Records.{variableAt, typeAt}
+use Rattle.tables.specs.Decode.{guard, recordsFrom, nodeFromTable}
 use Rattle.reflection.specs.Contents.{Bytes}
 use Rattle.readable.specs.Checks.{passes, nodeChecked, membersLeft, typeLeft, nodesFrom, variableChecked, variablesTake, variablesChecked}
 use Rattle.readable.proofs.RecordTests.{records-none, records-next}
@@ -24,7 +24,8 @@ module _ (types : List ℕ) where
   unfolding nodesFrom
   nodes-next k count h =
       let fewer : count - k - 1 ≡ count - (k + 1) = omega arith in
-      ap (map nodeFromTable) (records-next (typeAt types) k (count - k) (omega arith)) ∙ ap (λ n. nodeFromTable (typeAt types k) ∷ map nodeFromTable (recordsFrom (typeAt types) (k + 1) n)) fewer
+      ap (map nodeFromTable) (records-next (typeAt types) k (count - k) (omega arith))
+      ∙ ap (λ n. nodeFromTable (typeAt types k) ∷ map nodeFromTable (recordsFrom (typeAt types) (k + 1) n)) fewer
 
   -- A type: no level or no node is left, its node fails, or its members are next.
   module _ (test : Bool → Node Text → Bool) (inner : Bool) where
@@ -38,26 +39,32 @@ module _ (types : List ℕ) where
     no-node (suc levels) k count h = ap (typeLeft test inner (suc levels)) (nodes-none k (count - k) (omega arith))
 
     type-next : (levels k count : ℕ) → (levels ≡ 0 → ⊥) → k < count → typeLeft test inner levels (nodesFrom types k (count - k))
-        ≡ (guard (test inner (nodeFromTable (typeAt types k))) >>= λ _. membersLeft (typeLeft test true (levels - 1)) (nodeFromTable (typeAt types k) .member-count) (nodesFrom types (k + 1) (count - (k + 1))))
+        ≡ (guard (test inner (nodeFromTable (typeAt types k))) >>= λ _. membersLeft (typeLeft test true (levels - 1))
+        (nodeFromTable (typeAt types k) .member-count) (nodesFrom types (k + 1) (count - (k + 1))))
     unfolding typeLeft
     type-next zero k count n h = absurd (n refl)
     type-next (suc levels) k count n h =
         let fewer : levels ≡ suc levels - 1 = omega arith in
         ap (typeLeft test inner (suc levels)) (nodes-next k count h)
-        ∙ ap (λ l. guard (test inner (nodeFromTable (typeAt types k))) >>= λ _. membersLeft (typeLeft test true l) (nodeFromTable (typeAt types k) .member-count) (nodesFrom types (k + 1) (count - (k + 1)))) fewer
+        ∙ ap (λ l. guard (test inner (nodeFromTable (typeAt types k))) >>= λ _. membersLeft (typeLeft test true l)
+        (nodeFromTable (typeAt types k) .member-count) (nodesFrom types (k + 1) (count - (k + 1)))) fewer
 
-    pub node-fails : (levels k count : ℕ) → (levels ≡ 0 → ⊥) → k < count → test inner (nodeFromTable (typeAt types k)) ≡ false → typeLeft test inner levels (nodesFrom types k (count - k)) ≡ none
+    pub node-fails : (levels k count : ℕ) → (levels ≡ 0 → ⊥) → k < count → test inner (nodeFromTable (typeAt types k)) ≡ false
+        → typeLeft test inner levels (nodesFrom types k (count - k)) ≡ none
     unfolding guard _>>=_
     node-fails levels k count n h e =
         type-next levels k count n h
-        ∙ ap (λ b. guard b >>= λ _. membersLeft (typeLeft test true (levels - 1)) (nodeFromTable (typeAt types k) .member-count) (nodesFrom types (k + 1) (count - (k + 1)))) e
+        ∙ ap (λ b. guard b >>= λ _. membersLeft (typeLeft test true (levels - 1)) (nodeFromTable (typeAt types k) .member-count)
+        (nodesFrom types (k + 1) (count - (k + 1)))) e
 
-    pub node-passes : (levels k count : ℕ) → (levels ≡ 0 → ⊥) → k < count → test inner (nodeFromTable (typeAt types k)) ≡ true → typeLeft test inner levels (nodesFrom types k (count - k))
+    pub node-passes : (levels k count : ℕ) → (levels ≡ 0 → ⊥) → k < count → test inner (nodeFromTable (typeAt types k)) ≡ true
+        → typeLeft test inner levels (nodesFrom types k (count - k))
         ≡ membersLeft (typeLeft test true (levels - 1)) (nodeFromTable (typeAt types k) .member-count) (nodesFrom types (k + 1) (count - (k + 1)))
     unfolding guard _>>=_
     node-passes levels k count n h e =
         type-next levels k count n h
-        ∙ ap (λ b. guard b >>= λ _. membersLeft (typeLeft test true (levels - 1)) (nodeFromTable (typeAt types k) .member-count) (nodesFrom types (k + 1) (count - (k + 1)))) e
+        ∙ ap (λ b. guard b >>= λ _. membersLeft (typeLeft test true (levels - 1)) (nodeFromTable (typeAt types k) .member-count)
+        (nodesFrom types (k + 1) (count - (k + 1)))) e
 
 -- Members: none is left, the next fails, or the next passes.
 module _ (walk : List (Node Text) → Option (List (Node Text))) where
@@ -88,7 +95,8 @@ module _ (chunk edits : Bytes) (sm5 : Bool) (variables types : List ℕ) where
   pub variables-done : (i n k end : ℕ) → n ≤ 0 → k ≤ end → variablesChecked chunk edits sm5 variables types i n k (end - k) ≡ eqb k end
   unfolding variablesChecked
   variables-done i n k end h below =
-      ap (λ vs. variablesTake chunk edits sm5 vs (nodesFrom types k (end - k))) (records-none (variableAt variables) i n h) ∙ nodes-done k (end - k) ∙ go (eqb k end) refl
+      ap (λ vs. variablesTake chunk edits sm5 vs (nodesFrom types k (end - k))) (records-none (variableAt variables) i n h) ∙ nodes-done k (end - k)
+      ∙ go (eqb k end) refl
     where
       go : (b : Bool) → eqb k end ≡ b → eqb (end - k) 0 ≡ b
       go true e = eq-eqb (end - k) 0 (omega (arith, eqb-true k end e))
@@ -98,11 +106,13 @@ module _ (chunk edits : Bytes) (sm5 : Bool) (variables types : List ℕ) where
   below k end = typeLeft (nodeChecked chunk edits sm5) false typeLevels (nodesFrom types k (end - k))
 
   variables-next : (i n k end : ℕ) → 0 < n → variablesChecked chunk edits sm5 variables types i n k (end - k)
-      ≡ (variableChecked chunk edits sm5 (variableAt variables i) && passes (variablesTake chunk edits sm5 (recordsFrom (variableAt variables) (i + 1) (n - 1))) (below k end))
+      ≡ (variableChecked chunk edits sm5 (variableAt variables i) && passes
+      (variablesTake chunk edits sm5 (recordsFrom (variableAt variables) (i + 1) (n - 1))) (below k end))
   unfolding variablesChecked variablesTake
   variables-next i n k end h = ap (λ vs. variablesTake chunk edits sm5 vs (nodesFrom types k (end - k))) (records-next (variableAt variables) i n h)
 
-  pub variable-fails : (i n k end : ℕ) → 0 < n → variableChecked chunk edits sm5 (variableAt variables i) ≡ false → variablesChecked chunk edits sm5 variables types i n k (end - k) ≡ false
+  pub variable-fails : (i n k end : ℕ) → 0 < n → variableChecked chunk edits sm5 (variableAt variables i) ≡ false
+      → variablesChecked chunk edits sm5 variables types i n k (end - k) ≡ false
   variable-fails i n k end h e =
       variables-next i n k end h
       ∙ ap (λ b. b && passes (variablesTake chunk edits sm5 (recordsFrom (variableAt variables) (i + 1) (n - 1))) (below k end)) e
@@ -110,10 +120,12 @@ module _ (chunk edits : Bytes) (sm5 : Bool) (variables types : List ℕ) where
   pub type-fails : (i n k end : ℕ) → 0 < n → below k end ≡ none → variablesChecked chunk edits sm5 variables types i n k (end - k) ≡ false
   type-fails i n k end h e =
       variables-next i n k end h
-      ∙ ap (λ o. variableChecked chunk edits sm5 (variableAt variables i) && passes (variablesTake chunk edits sm5 (recordsFrom (variableAt variables) (i + 1) (n - 1))) o) e
+      ∙ ap (λ o. variableChecked chunk edits sm5 (variableAt variables i) && passes
+      (variablesTake chunk edits sm5 (recordsFrom (variableAt variables) (i + 1) (n - 1))) o) e
       ∙ and-false (variableChecked chunk edits sm5 (variableAt variables i))
 
-  pub variable-passes : (i n k m end : ℕ) → 0 < n → variableChecked chunk edits sm5 (variableAt variables i) ≡ true → below k end ≡ some (nodesFrom types m (end - m))
+  pub variable-passes : (i n k m end : ℕ) → 0 < n → variableChecked chunk edits sm5 (variableAt variables i) ≡ true
+      → below k end ≡ some (nodesFrom types m (end - m))
       → variablesChecked chunk edits sm5 variables types i n k (end - k) ≡ variablesChecked chunk edits sm5 variables types (i + 1) (n - 1) m (end - m)
   unfolding variablesChecked
   variable-passes i n k m end h e walked =

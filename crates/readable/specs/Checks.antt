@@ -15,9 +15,10 @@ use Rattle.reflection.specs.declared.CBufferDef.{CBufferDef as BufferRecord}
 use Rattle.reflection.specs.declared.CBufferVariable.{CBufferVariable as VariableRecord}
 use Rattle.reflection.specs.Reflection.{isSm5, isWide}
 use Rattle.reflection.specs.Limits.{chunkLimit, bindingRoom, bufferRoom, variableRoom, typeRoom}
-use Rattle.reflection.specs.Nodes.{Node, _>>=_, typeLevels}
-use Rattle.reflection.specs.Records.{bindingWidth, bufferWidth, variableWidth, typeWidth, bindingAt, bufferAt, variableAt, typeAt}
-use Rattle.reflection.specs.Decode.{guard, recordsFrom, bindingFromTable, nodeFromTable, rd11FromHeader}
+use Rattle.tables.specs.Nodes.{Node, _>>=_, typeLevels}
+use Rattle.tables.specs.Records.{bindingWidth, bufferWidth, variableWidth, typeWidth, bindingAt, bufferAt, variableAt, typeAt}
+use Rattle.tables.specs.Decode.{guard, recordsFrom, bindingFromTable, nodeFromTable}
+use Rattle.reflection.specs.Rd11.{rd11FromHeader}
 use Rattle.reflection.specs.Texts.{inPlace, textBytes}
 use Rattle.reflection.specs.Contents.{Bytes}
 use Rattle.readable.specs.declared.Walk.{Walk}

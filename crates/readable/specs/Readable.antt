@@ -10,16 +10,18 @@ use Rattle.text.specs.Utf8.{wellFormed}
 use Rattle.text.specs.Strings.{withoutNul}
 use Rattle.codes.specs.Table.{known}
 use Rattle.codes.specs.Microsoft.{inputTypes, srvDimensions}
-use Rattle.codes.specs.Flags.{bindingFlagsAllowed}
+use Rattle.flags.specs.Flags.{bindingFlagsAllowed}
 use Rattle.reflection.specs.declared.Text.{Text}
 use Rattle.reflection.specs.declared.ResourceDef.{ResourceDef as Header}
-use Rattle.reflection.specs.Reflection.{TypeNumbers, TypeDesc, typeDesc, Members, noMember, member, memberCount, CBufferVariable, CBufferDef, ResourceBinding, ResourceDef, Rd11, noRd11, rd11, majorOf, isSm5, isWide}
-use Rattle.reflection.specs.Nodes.{_>>=_, nodesOf, typeLevels}
-use Rattle.reflection.specs.Tables.{allVariables}
+use Rattle.reflection.specs.Reflection.{TypeNumbers, TypeDesc, typeDesc, Members, noMember, member, memberCount, CBufferVariable, CBufferDef}
+use Rattle.reflection.specs.Reflection.{ResourceBinding, ResourceDef, Rd11, noRd11, rd11, majorOf, isSm5, isWide}
+use Rattle.tables.specs.Nodes.{_>>=_, nodesOf, typeLevels}
+use Rattle.reflection.specs.Reflection.{allVariables}
 use Rattle.reflection.specs.Limits.{chunkLimit, bindingRoom, bufferRoom, variableRoom, typeRoom}
 use Rattle.reflection.specs.Strides.{rd11HeaderSize, bufferStride, variableStride, typeStride, memberStride}
 use Rattle.reflection.specs.Rd11.{rd11Allowed}
-use Rattle.reflection.specs.Decode.{guard, rd11FromHeader, decode}
+use Rattle.tables.specs.Decode.{guard, decode}
+use Rattle.reflection.specs.Rd11.{rd11FromHeader}
 use Rattle.reflection.specs.Texts.{inPlace}
 use Rattle.reflection.specs.Contents.{Bytes, contents, outerNames, innerNames, defaultsOf}
 
@@ -56,7 +58,8 @@ bindingReadable wide b =
 -- "16-bit fields below 65,536"; "for major 4, types without … extra words"
 unfoldable pub numbersReadable : Bool → TypeNumbers → Bool
 numbersReadable sm5 k =
-    every (λ n. leb n 65535) (k .class ∷ k .var-type ∷ k .rows ∷ k .columns ∷ k .elements ∷ []) && zeroUnless sm5 (k .extra0 ∷ k .extra1 ∷ k .extra2 ∷ k .extra3 ∷ [])
+    every (λ n. leb n 65535) (k .class ∷ k .var-type ∷ k .rows ∷ k .columns ∷ k .elements ∷ []) && zeroUnless sm5
+    (k .extra0 ∷ k .extra1 ∷ k .extra2 ∷ k .extra3 ∷ [])
 
 -- A type of at most so many levels: "depth at most 64", the root at 0; "for major 4, types without name".
 unfoldable mutual
@@ -103,7 +106,8 @@ rd11Absent h =
 
 -- Every name and default lies in the buffer that its source names.
 unfoldable pub textsInPlace : Bytes → Bytes → ResourceDef Text Text → Bool
-textsInPlace chunk edits r = every (inPlace chunk edits) (outerNames r) && (every (inPlace chunk edits) (innerNames r) && every (inPlace chunk edits) (defaultsOf r))
+textsInPlace chunk edits r =
+    every (inPlace chunk edits) (outerNames r) && (every (inPlace chunk edits) (innerNames r) && every (inPlace chunk edits) (defaultsOf r))
 
 -- The contents of a reflection in a header, four tables and two buffers: "both buffers at most 65,536 bytes, places inside them, counts that match the
 -- records held". Where that is not so it has none.

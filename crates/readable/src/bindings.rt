@@ -37,7 +37,7 @@ pub(crate) fn bindings_readable(
     let mut i: usize = 0;
     let mut left = count;
     while 0 < left {
-        let b = reflection::binding_at(table, i);
+        let b = tables::binding_at(table, i);
         if !binding_readable(chunk, edits, wide, b) {
             return false;
         }

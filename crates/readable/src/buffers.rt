@@ -17,7 +17,7 @@ pub(crate) fn buffers_readable(
     let mut left = count;
     let mut rest = variables;
     while 0 < left {
-        let b = reflection::buffer_at(table, i);
+        let b = tables::buffer_at(table, i);
         let name = b.name;
         if !name_readable(chunk, edits, name) {
             return false;

@@ -1,7 +1,7 @@
 // The header of a reflection: the version, the RD11 words, the creator, and how many records each table has.
 ghost use mathlib.Core.Path.{_≡_};
 ghost use Prim.Native.Nat.{_<_};
-ghost use Rattle.reflection.specs.Decode.{rd11FromHeader};
+ghost use Rattle.reflection.specs.Rd11.{rd11FromHeader};
 ghost use Rattle.readable.specs.Readable.{versionReadable, rd11Absent};
 ghost use Rattle.readable.specs.Checks.{countChecked, countsChecked, headerChecked};
 use crate::both;

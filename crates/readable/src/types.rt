@@ -2,7 +2,7 @@
 ghost use mathlib.Core.Path.{_≡_};
 ghost use mathlib.Core.Bool.{true};
 ghost use Prim.Native.Nat.{_-_, _≤_};
-ghost use Rattle.reflection.specs.Decode.{nodeFromTable};
+ghost use Rattle.tables.specs.Decode.{nodeFromTable};
 ghost use Rattle.readable.specs.Readable.{numbersReadable};
 ghost use Rattle.readable.specs.Checks.{nodeChecked, membersLeft, typeLeft, nodesFrom, NodesWalked};
 use crate::Walk;
@@ -71,7 +71,7 @@ pub(crate) fn check_type(
     if count <= k {
         return Walk::Failed;
     }
-    let t = reflection::type_at(types, k);
+    let t = tables::type_at(types, k);
     if !node_readable(chunk, edits, sm5, inner, t) {
         return Walk::Failed;
     }

@@ -41,7 +41,7 @@ pub(crate) fn variables_readable(
     let mut k: usize = 0;
     let mut left = count;
     while 0 < left {
-        let v = reflection::variable_at(table, i);
+        let v = tables::variable_at(table, i);
         if !variable_readable(chunk, edits, sm5, v) {
             return false;
         }

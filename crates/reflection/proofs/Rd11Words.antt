@@ -4,7 +4,7 @@ use mathlib.Core.Bool.{Bool, true, false}
 use lib.Dec.{eqb}
 use Rattle.reflection.specs.declared.ResourceDef.{ResourceDef as Header}
 use Rattle.reflection.specs.Reflection.{Rd11, noRd11, rd11, majorOf, isSm5}
-use Rattle.reflection.specs.Decode.{rd11FromHeader}
+use Rattle.reflection.specs.Rd11.{rd11FromHeader}
 
 -- The three words of a header, where it has them.
 abbrev pub rd11If : Bool → Header → Rd11

@@ -5,7 +5,7 @@ use Prim.Native.Nat.{ℕ}
 use Rattle.reflection.specs.declared.Text.{Text}
 use Rattle.reflection.specs.Reflection.{TypeDesc, typeDesc, Members, noMember, member, CBufferVariable, CBufferDef, ResourceDef, mapDef}
 use Rattle.reflection.specs.Texts.{textBytes}
-use Rattle.reflection.specs.Tables.{allVariables}
+use Rattle.reflection.specs.Reflection.{allVariables}
 
 abbrev pub Bytes : Type 0
 Bytes = List ℕ

@@ -1,12 +1,8 @@
 pub mod Limits
 pub mod Strides
-pub mod Rd11
 pub mod Refusals
 pub mod Outcome
 pub mod Reflection
+pub mod Rd11
 pub mod Texts
-pub mod Nodes
-pub mod Records
-pub mod Tables
-pub mod Decode
 pub mod Contents

@@ -151,3 +151,8 @@ mapDef f g r = record {
   bindings = map (mapBinding f) (r .bindings);
   constant-buffers = map (mapBuffer f g) (r .constant-buffers);
 }
+
+-- All variables of buffers, in walk order.
+unfoldable pub allVariables : {N D : Type 0} → List (CBufferDef N D) → List (CBufferVariable N D)
+allVariables [] = []
+allVariables (b ∷ bs) = b .variables ++ allVariables bs

@@ -1,13 +1,12 @@
 // A reflection held in lent tables: the structs of the Rust by value, each the record of a table.
-use codes::BindingFlags;
-use codes::VariableFlags;
+use flags::BindingFlags;
+use flags::VariableFlags;
 
 mod limits;
 mod names;
 mod rd11;
 mod refusal_numbers;
 mod strides;
-mod tables;
 
 pub use limits::BINDING_ROOM;
 pub use limits::BINDING_TABLE;
@@ -63,14 +62,6 @@ pub use strides::SM51_IDENTIFIER;
 pub use strides::TYPE_STRIDE;
 pub use strides::VARIABLE_STRIDE;
 pub use strides::WIDE_BINDING_STRIDE;
-pub use tables::binding_at;
-pub use tables::buffer_at;
-pub use tables::put_binding;
-pub use tables::put_buffer;
-pub use tables::put_type;
-pub use tables::put_variable;
-pub use tables::type_at;
-pub use tables::variable_at;
 
 // Where a name or a default lies: in the chunk (source 0) or in the text of edits (source 1), `length` bytes from `place` on.
 pub struct Text {

@@ -2,7 +2,7 @@
 ghost use mathlib.Core.Path.{_≡_};
 ghost use Rattle.reflection.specs.Rd11.{rd11Allowed};
 ghost use Rattle.reflection.specs.Reflection.{majorOf, isSm5, isWide};
-ghost use Rattle.reflection.specs.Decode.{rd11FromHeader};
+ghost use Rattle.reflection.specs.Rd11.{rd11FromHeader};
 use crate::ResourceDef;
 use crate::strides::BINDING_STRIDE;
 use crate::strides::BUFFER_STRIDE;

@@ -25,5 +25,5 @@ fn main() {
         &mut variables,
         &mut types,
     );
-    output::flush(&out, &mut used);
+    stdout::flush(&out, &mut used);
 }

@@ -1,8 +1,8 @@
 // Reads texts from standard input, a line each, and prints what each spells: class, base, rows, columns and elements, parted by tabs (document 01,
 // "Spelling and listing"). A line feed ends a line, which the last line may lack.
 use libc::STDIN_FILENO;
-use spelling::SpelledType;
-use spelling::TypeSpelling;
+use spelling_parse::SpelledType;
+use spelling_parse::TypeSpelling;
 
 // The longest text that is kept. Leading zeros have no limit, so a run of zeros is kept to its first eight: in front of a number the others change
 // nothing, and after another digit eight make it too large already. What is longer even so is no spelling: one has at most three numbers.
@@ -10,16 +10,16 @@ const LONGEST: usize = 1048576;
 
 // Prints what a text spells.
 fn put_numbers(out: &mut [u8; 8192], used: &mut usize, t: TypeSpelling) {
-    output::put_decimal(out, used, t.class);
-    output::put_byte(out, used, b'\t');
-    output::put_decimal(out, used, t.base);
-    output::put_byte(out, used, b'\t');
-    output::put_decimal(out, used, t.rows);
-    output::put_byte(out, used, b'\t');
-    output::put_decimal(out, used, t.columns);
-    output::put_byte(out, used, b'\t');
-    output::put_decimal(out, used, t.elements);
-    output::put_byte(out, used, b'\n');
+    stdout::put_decimal(out, used, t.class);
+    stdout::put_byte(out, used, b'\t');
+    stdout::put_decimal(out, used, t.base);
+    stdout::put_byte(out, used, b'\t');
+    stdout::put_decimal(out, used, t.rows);
+    stdout::put_byte(out, used, b'\t');
+    stdout::put_decimal(out, used, t.columns);
+    stdout::put_byte(out, used, b'\t');
+    stdout::put_decimal(out, used, t.elements);
+    stdout::put_byte(out, used, b'\n');
 }
 
 fn is_zero(line: &[u8], at: usize) -> bool {
@@ -64,13 +64,13 @@ fn keep(line: &mut [u8; LONGEST], n: usize, b: u8) -> usize {
 // Answers a text of which `length` bytes are kept; one that had no room is no spelling.
 fn answer(out: &mut [u8; 8192], used: &mut usize, line: &[u8], length: usize) {
     if LONGEST < length {
-        output::put_refused(out, used, reflection::NO_SPELLING);
+        stdout::put_refused(out, used, reflection::NO_SPELLING);
         return;
     }
-    let spelled = spelling::parse_hlsl_type(words::part(line, 0, length));
+    let spelled = spelling_parse::parse_hlsl_type(words::part(line, 0, length));
     match spelled {
         SpelledType::Refused(refusal) => {
-            output::put_refused(out, used, refusal.number);
+            stdout::put_refused(out, used, refusal.number);
         }
         SpelledType::Understood(t) => {
             put_numbers(out, used, t);
@@ -113,7 +113,7 @@ fn answer_some(
     let got = libc::read(STDIN_FILENO, &mut block);
     let n = io::count(got, &block);
     *held = answer_block(out, used, line, *held, &block[..n]);
-    output::flush(out, used);
+    stdout::flush(out, used);
     0 < n
 }
 
@@ -129,7 +129,7 @@ fn answer_all(line: &mut [u8; LONGEST]) {
     if 0 < held {
         answer(&mut out, &mut used, line, held);
     }
-    output::flush(&out, &mut used);
+    stdout::flush(&out, &mut used);
 }
 
 fn main() {

@@ -19,8 +19,8 @@ use Rattle.codes.specs.declared.variable.BaseTypeCode.{BaseTypeCode}
 use Rattle.codes.specs.declared.variable.BaseTypeCode.the-variants.{Known, Unknown}
 use Rattle.codes.proofs.BaseTypes.{base-type-both-ways}
 use Rattle.reflection.specs.declared.TypeDesc.{TypeDesc}
-use Rattle.reflection.specs.Nodes.{_>>=_}
-use Rattle.emit.specs.Digits.{decimal}
+use Rattle.tables.specs.Nodes.{_>>=_}
+use Rattle.text_output.specs.Digits.{decimal}
 use Rattle.spelling.specs.Names.{baseNames, nameIn, baseName}
 use Rattle.spelling.specs.Spelling.{classDimensions, dimensions, arraySuffix, numericName, ownName, byName, typeSpelling, isSpelled, bytesOf}
 
@@ -43,7 +43,8 @@ unnamed [] n e = refl
 unnamed (row ∷ rows) n e = go (eqb (variableTypeNumber (row .0)) n) (unnamed rows n) e
   where
     go : (b : Boolean) → (lookup (namedRows rows) n ≡ none → nameIn rows n ≡ none)
-        → _≡_ {A = Option («D3D_SHADER_VARIABLE_TYPE» × ℕ)} (elim b [ true ↦ some (row .0, variableTypeNumber (row .0)) | false ↦ lookup (namedRows rows) n ]) none
+        → _≡_ {A = Option («D3D_SHADER_VARIABLE_TYPE» × ℕ)}
+        (elim b [ true ↦ some (row .0, variableTypeNumber (row .0)) | false ↦ lookup (namedRows rows) n ]) none
         → cond b (some (row .1)) (nameIn rows n) ≡ none
     go true later e = absurd (Option·none-ne-some _ (sym e))
     go false later e = later e
@@ -70,7 +71,8 @@ base-named n (Known x) e = sym (ap isSpelled (base-known n x e) ∙ base-spelled
 base-named n Unknown e = sym (ap isSpelled (base-unknown n e))
 
 module _ (class rows columns : ℕ) where
-  pub class-known : (x : VariableClass) → some (classRow x) ≡ lookup variableClasses class → dimensions class rows columns ≡ classDimensions (classEnumerator x) rows columns
+  pub class-known : (x : VariableClass) → some (classRow x) ≡ lookup variableClasses class
+      → dimensions class rows columns ≡ classDimensions (classEnumerator x) rows columns
   unfolding dimensions _>>=_
   class-known x e = rw (← e)
 
@@ -148,5 +150,6 @@ module _ (name : List ℕ) (t : TypeDesc) (numbers : byName t ≡ false) where
   numbers-unspelled e = ap isSpelled by-numbers ∙ from-unspelled (baseName (t .«var_type»)) _ _ e
 
   pub numbers-bytes : isSpelled (typeSpelling name t) ≡ true
-      → bytesOf (typeSpelling name t) ≡ bytesOf (baseName (t .«var_type»)) ++ (bytesOf (dimensions (t .class) (t .rows) (t .columns)) ++ arraySuffix (t .elements))
+      → bytesOf (typeSpelling name t)
+      ≡ bytesOf (baseName (t .«var_type»)) ++ (bytesOf (dimensions (t .class) (t .rows) (t .columns)) ++ arraySuffix (t .elements))
   numbers-bytes e = ap bytesOf by-numbers ∙ from-bytes (baseName (t .«var_type»)) _ _ (sym (ap isSpelled by-numbers) ∙ e)

@@ -8,7 +8,7 @@ use Rattle.reflection.specs.declared.TypeDesc.{TypeDesc}
 use Rattle.reflection.specs.Outcome.{ok, refused, because}
 use Rattle.reflection.specs.Refusals.{notReadable, noSpelling}
 use Rattle.reflection.specs.Texts.{textBytes}
-use Rattle.emit.specs.Printable.{printable}
+use Rattle.text_output.specs.Printable.{printable}
 use Rattle.spelling.specs.Spelling.{fieldsFit, typeSpelling, isSpelled, bytesOf, spelledOrRefused, declared, typeName, declaration}
 use Rattle.spelling.proofs.WritePieces.{spelled-bytes, unspelled-none}
 
@@ -47,7 +47,8 @@ module _ (chunk edits : List ℕ) (t : TypeDesc) where
         declared-name-unprintable unprintable = rw (own, fit, unprintable)
 
         module _ (named : printable chunk edits name ≡ true) where
-          pub declared-unspelled : isSpelled (typeSpelling (textBytes chunk edits (t .name)) t) ≡ false → declaration chunk edits t name ≡ refused (because noSpelling)
+          pub declared-unspelled : isSpelled (typeSpelling (textBytes chunk edits (t .name)) t) ≡ false
+              → declaration chunk edits t name ≡ refused (because noSpelling)
           unfolding declaration
           declared-unspelled e = rw (own, fit, named, unspelled-none (typeSpelling (textBytes chunk edits (t .name)) t) e)
 

@@ -1,4 +1,2 @@
 pub mod Names
 pub mod Spelling
-pub mod Grammar
-pub mod GrammarParts

@@ -5,8 +5,9 @@ use mathlib.Core.Option.{Option, none, some}
 use Prim.Native.Nat.{ℕ}
 use lib.Dec.{eqb}
 use Rattle.text.specs.Same.{sameBytes}
-use Rattle.codes.specs.Microsoft.{«D3D_SHADER_VARIABLE_TYPE», «D3D_SVT_BOOL», «D3D_SVT_INT», «D3D_SVT_FLOAT», «D3D_SVT_UINT», «D3D_SVT_DOUBLE», variableTypeNumber}
-use Rattle.emit.specs.Ascii.{ascii}
+use Rattle.codes.specs.Microsoft.{«D3D_SHADER_VARIABLE_TYPE», «D3D_SVT_BOOL», «D3D_SVT_INT», «D3D_SVT_FLOAT», «D3D_SVT_UINT», «D3D_SVT_DOUBLE»}
+use Rattle.codes.specs.Microsoft.{variableTypeNumber}
+use Rattle.text_output.specs.Ascii.{ascii}
 
 -- The variable types that are spelled by a word, and the word. No other has a spelling.
 abbrev pub baseNames : List («D3D_SHADER_VARIABLE_TYPE» × List ℕ)

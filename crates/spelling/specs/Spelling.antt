@@ -5,16 +5,18 @@ use mathlib.Core.Option.{Option, none, some}
 use Prim.Native.Nat.{ℕ}
 use lib.Dec.{eqb, ltb}
 use Rattle.codes.specs.Table.{lookup}
-use Rattle.codes.specs.Microsoft.{«D3D_SHADER_VARIABLE_CLASS», «D3D_SVC_SCALAR», «D3D_SVC_VECTOR», «D3D_SVC_MATRIX_ROWS», «D3D_SVC_MATRIX_COLUMNS», «D3D_SVC_OBJECT», «D3D_SVC_STRUCT», «D3D_SVC_INTERFACE_CLASS», «D3D_SVC_INTERFACE_POINTER», variableClassNumber, variableClasses}
+use Rattle.codes.specs.Microsoft.{«D3D_SHADER_VARIABLE_CLASS», «D3D_SVC_SCALAR», «D3D_SVC_VECTOR», «D3D_SVC_MATRIX_ROWS», «D3D_SVC_MATRIX_COLUMNS»}
+use Rattle.codes.specs.Microsoft.{«D3D_SVC_OBJECT», «D3D_SVC_STRUCT», «D3D_SVC_INTERFACE_CLASS», «D3D_SVC_INTERFACE_POINTER», variableClassNumber}
+use Rattle.codes.specs.Microsoft.{variableClasses}
 use Rattle.reflection.specs.declared.Text.{Text}
 use Rattle.reflection.specs.declared.TypeDesc.{TypeDesc}
 use Rattle.reflection.specs.Limits.{u16Limit}
 use Rattle.reflection.specs.Refusals.{notReadable, noSpelling}
 use Rattle.reflection.specs.Outcome.{Outcome, ok, refused, because}
 use Rattle.reflection.specs.Texts.{textBytes}
-use Rattle.reflection.specs.Nodes.{_>>=_}
-use Rattle.emit.specs.Digits.{decimal}
-use Rattle.emit.specs.Printable.{printable}
+use Rattle.tables.specs.Nodes.{_>>=_}
+use Rattle.text_output.specs.Digits.{decimal}
+use Rattle.text_output.specs.Printable.{printable}
 use Rattle.spelling.specs.Names.{baseName}
 
 -- What follows the base: nothing for a scalar, the columns for a vector, rows, `x` and columns for a matrix. Other classes have no such spelling.
@@ -77,7 +79,7 @@ abbrev pub spelledOrRefused : Option (List ℕ) → Outcome (List ℕ)
 spelledOrRefused (some bytes) = ok bytes
 spelledOrRefused none = refused (because noSpelling)
 
--- `hlsl_type_name`: 16 before 18. (17, for an output that is too small, comes last: `fitting` of crate emit.)
+-- `hlsl_type_name`: 16 before 18. (17, for an output that is too small, comes last: `fitting` of crate text_output.)
 unfoldable pub typeName : List ℕ → List ℕ → TypeDesc → Outcome (List ℕ)
 typeName chunk edits t =
     cond (printable chunk edits (t .name) && fieldsFit t) (spelledOrRefused (typeSpelling (textBytes chunk edits (t .name)) t)) (refused (because notReadable))

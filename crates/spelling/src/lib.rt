@@ -1,24 +1,5 @@
-// The spelling of types (document 01, "Spelling and listing").
-use reflection::Refusal;
-
-mod parse;
+// The spelling of types, written (document 01, "Spelling and listing").
 mod write;
 
-pub use parse::parse_hlsl_type;
 pub use write::declaration;
 pub use write::hlsl_type_name;
-
-// What a spelling says.
-pub struct TypeSpelling {
-    pub class: u32,
-    pub base: u32,
-    pub rows: u32,
-    pub columns: u32,
-    pub elements: u32,
-}
-
-// What reading a spelling answers: its numbers, or that it is not understood.
-pub enum SpelledType {
-    Understood(TypeSpelling),
-    Refused(Refusal),
-}

@@ -6,24 +6,25 @@ ghost use Prim.Native.Nat.{ℕ, _+_, _≤_, _<_, _^_};
 ghost use lib.ListN.{length};
 ghost use Rattle.words.specs.Splice.{Put};
 ghost use Rattle.codes.specs.Variable.{classEnumerator, baseTypeRow};
-ghost use Rattle.emit.specs.Digits.{decimal};
-ghost use Rattle.emit.specs.Written.{fitting, writtenOf, outputOf};
-ghost use Rattle.emit.specs.Cursor.{farthest};
+ghost use Rattle.text_output.specs.Digits.{decimal};
+ghost use Rattle.text_output.specs.Written.{Answers};
+ghost use Rattle.text_output.specs.Cursor.{farthest};
 ghost use Rattle.spelling.specs.Names.{baseNames, nameIn, baseName};
-ghost use Rattle.spelling.specs.Spelling.{fieldsFit, byName, isSpelled, bytesOf, classDimensions, dimensions, arraySuffix, typeSpelling, typeName, declaration};
+ghost use Rattle.spelling.specs.Spelling.{fieldsFit, byName, isSpelled, bytesOf, classDimensions, dimensions, arraySuffix, typeSpelling};
+ghost use Rattle.spelling.specs.Spelling.{typeName, declaration};
 use codes::BaseType;
 use codes::BaseTypeCode;
 use codes::VariableClass;
 use codes::VariableClassCode;
-use emit::Written;
-use emit::put_byte;
-use emit::put_bytes;
-use emit::put_decimal;
 use reflection::NO_SPELLING;
 use reflection::NOT_READABLE;
 use reflection::Text;
 use reflection::TypeDesc;
 use reflection::U16_LIMIT;
+use text_output::Written;
+use text_output::put_byte;
+use text_output::put_bytes;
+use text_output::put_decimal;
 
 // Whether the 16-bit fields fit 16 bits.
 fn fields_fit(t: TypeDesc) -> bool
@@ -199,7 +200,8 @@ fn put_spelling(out: &mut [u8], at: usize, name: &[u8], t: TypeDesc) -> usize
 fn put_declaration(out: &mut [u8], type_name: &[u8], t: TypeDesc, name: &[u8]) -> usize
     requires room { ⌜ (length (now «type_name») < 2 ^ 32) × (length (now name) < 2 ^ 32) ⌝ }
     requires spelled { ⌜ isSpelled (typeSpelling (now «type_name») t) ≡ true ⌝ }
-    ensures { λ r. ⌜ Put (now (out .entry)) 0 (bytesOf (typeSpelling (now («type_name» .entry)) t) ++ (32 ∷ (now (name .entry) ++ (59 ∷ [])))) (now (out .exit)) r ⌝ }
+    ensures { λ r. ⌜ Put (now (out .entry)) 0
+        (bytesOf (typeSpelling (now («type_name» .entry)) t) ++ (32 ∷ (now (name .entry) ++ (59 ∷ [])))) (now (out .exit)) r ⌝ }
 {
     let spelled = put_spelling(out, 0, type_name, t);
     let spaced = put_byte(out, spelled, b' ');
@@ -209,22 +211,21 @@ fn put_declaration(out: &mut [u8], type_name: &[u8], t: TypeDesc, name: &[u8]) -
 
 // `hlsl_type_name`: the spelling of a type.
 pub fn hlsl_type_name<'a>(chunk: &'a [u8], edits: &'a [u8], t: TypeDesc, out: &mut [u8]) -> Written
-    ensures answer { λ r. ⌜ r ≡ writtenOf (fitting (length (now (out .entry))) (typeName (now (chunk .entry)) (now (edits .entry)) t)) ⌝ }
-    ensures out { λ _. ⌜ now (out .exit) ≡ outputOf (fitting (length (now (out .entry))) (typeName (now (chunk .entry)) (now (edits .entry)) t)) (now (out .entry)) ⌝ }
+    ensures { λ r. ⌜ Answers (typeName (now (chunk .entry)) (now (edits .entry)) t) (now (out .entry)) (now (out .exit)) r ⌝ }
 {
     let own = t.name;
-    if !emit::printable(chunk, edits, own) {
-        return emit::refuse(out, NOT_READABLE);
+    if !text_output::printable(chunk, edits, own) {
+        return text_output::refuse(out, NOT_READABLE);
     }
     if !fields_fit(t) {
-        return emit::refuse(out, NOT_READABLE);
+        return text_output::refuse(out, NOT_READABLE);
     }
     let name = reflection::name_part(chunk, edits, own);
     if !has_spelling(name, t) {
-        return emit::refuse(out, NO_SPELLING);
+        return text_output::refuse(out, NO_SPELLING);
     }
     let end = put_spelling(out, 0, name, t);
-    emit::finish(out, end)
+    text_output::finish(out, end)
 }
 
 // The declaration line of a variable with that type and name.
@@ -235,23 +236,22 @@ pub fn declaration<'a>(
     name: Text,
     out: &mut [u8],
 ) -> Written
-    ensures answer { λ r. ⌜ r ≡ writtenOf (fitting (length (now (out .entry))) (declaration (now (chunk .entry)) (now (edits .entry)) t name)) ⌝ }
-    ensures out { λ _. ⌜ now (out .exit) ≡ outputOf (fitting (length (now (out .entry))) (declaration (now (chunk .entry)) (now (edits .entry)) t name)) (now (out .entry)) ⌝ }
+    ensures { λ r. ⌜ Answers (declaration (now (chunk .entry)) (now (edits .entry)) t name) (now (out .entry)) (now (out .exit)) r ⌝ }
 {
     let own = t.name;
-    if !emit::printable(chunk, edits, own) {
-        return emit::refuse(out, NOT_READABLE);
+    if !text_output::printable(chunk, edits, own) {
+        return text_output::refuse(out, NOT_READABLE);
     }
     if !fields_fit(t) {
-        return emit::refuse(out, NOT_READABLE);
+        return text_output::refuse(out, NOT_READABLE);
     }
-    if !emit::printable(chunk, edits, name) {
-        return emit::refuse(out, NOT_READABLE);
+    if !text_output::printable(chunk, edits, name) {
+        return text_output::refuse(out, NOT_READABLE);
     }
     let type_name = reflection::name_part(chunk, edits, own);
     if !has_spelling(type_name, t) {
-        return emit::refuse(out, NO_SPELLING);
+        return text_output::refuse(out, NO_SPELLING);
     }
     let end = put_declaration(out, type_name, t, reflection::name_part(chunk, edits, name));
-    emit::finish(out, end)
+    text_output::finish(out, end)
 }

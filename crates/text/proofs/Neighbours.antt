@@ -82,7 +82,8 @@ highest-is-tail p = go (eqb p 0xed) (eqb p 0xf4)
 abbrev First : ℕ → Type 0
 First b =
     ((mayBegin b ≡ false) × (begun table37 b ≡ Left.illFormed))
-    ⊎ ((mayBegin b ≡ true) × ((n : ℕ) × (begun table37 b ≡ awaits n (lowestAfter b) (highestAfter b)) × ((p2 p1 : ℕ) → p1 < 0xc0 → p2 < 0xe0 → ToCome n p2 p1 b)))
+    ⊎ ((mayBegin b ≡ true) × ((n : ℕ) × (begun table37 b ≡ awaits n (lowestAfter b) (highestAfter b)) × ((p2 p1 : ℕ) → p1 < 0xc0 → p2 < 0xe0
+    → ToCome n p2 p1 b)))
 
 module _ (b : ℕ) where
   -- no row of the table has a byte from 256 on
@@ -124,7 +125,8 @@ module _ (b : ℕ) where
   unfolding byNumbers
   some-tails n e h g = begun-by-numbers b h g ∙ rw (ne-eqb (tailsAfter b) 0 (λ z. omega arith), e)
 
-  from-80 : (is-low is-two is-three is-four : Bool) → ltb b 0xc2 ≡ is-low → ltb b 0xe0 ≡ is-two → ltb b 0xf0 ≡ is-three → ltb b 0xf5 ≡ is-four → 0x80 ≤ b → First b
+  from-80 : (is-low is-two is-three is-four : Bool) → ltb b 0xc2 ≡ is-low → ltb b 0xe0 ≡ is-two → ltb b 0xf0 ≡ is-three → ltb b 0xf5 ≡ is-four
+      → 0x80 ≤ b → First b
   unfolding tailsAfter
   from-80 true is-two is-three is-four l t r f h =
       let low = ltb-true b 0xc2 l in
@@ -219,4 +221,5 @@ module _ (s : List ℕ) where
       let e2 : i - 1 ≡ i + 1 - 2 = omega arith in
       let e1 : i ≡ i + 1 - 1 = omega arith in
       fits-here s i (getD s (i - 3) 0) (getD s (i - 2) 0) (getD s (i - 1) 0) g
-      ∙ (λ k. fits (getD s (i - 3) 0) (getD s (i - 2) 0) (getD s (i - 1) 0) (getD s i 0) && fitsFrom (getD s (e3 k) 0) (getD s (e2 k) 0) (getD s (e1 k) 0) (drop (i + 1) s))
+      ∙ (λ k. fits (getD s (i - 3) 0) (getD s (i - 2) 0) (getD s (i - 1) 0) (getD s i 0) && fitsFrom (getD s (e3 k) 0) (getD s (e2 k) 0)
+      (getD s (e1 k) 0) (drop (i + 1) s))

@@ -1,4 +1,5 @@
--- Little-endian numbers: a word is its two halves, what lies past the end counts as 0, a word that was written is read back. Each is a sum of bytes written another way.
+-- Little-endian numbers: a word is its two halves, what lies past the end counts as 0, a word that was written is read back. Each is a sum of bytes written
+-- another way.
 use mathlib.Core.Path.{_≡_, refl, sym, ap, _∙_}
 use mathlib.Core.List.{List, _++_}
 use Prim.Native.Nat.{ℕ, _+_, _*_, _≤_, _<_}

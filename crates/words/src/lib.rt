@@ -3,7 +3,7 @@ ghost use mathlib.Core.Path.{_≡_};
 ghost use mathlib.Core.List.{_++_};
 ghost use Prim.Native.Nat.{_+_, _-_, _≤_, _<_, min};
 ghost use lib.ListN.{length, getD, take, replicate};
-ghost use Rattle.words.specs.Words.{halfAt, wordAt, lowAt, highAt};
+ghost use Rattle.words.specs.Words.{halfAt, wordAt, wordIf, lowAt, highAt};
 ghost use Rattle.words.specs.Parts.{inside, part};
 ghost use Rattle.words.specs.Splice.{splice};
 
@@ -65,6 +65,13 @@ pub fn word_at(s: &[u8], at: usize) -> u32
         return word_within(s, at);
     }
     word_near_end(s, at)
+}
+
+// The word at `at` of a record that may have it, else 0.
+pub fn word_if(s: &[u8], present: bool, at: usize) -> u32
+    ensures { λ r. ⌜ r ≡ wordIf present (now (s .entry)) at ⌝ }
+{
+    if present { word_at(s, at) } else { 0 }
 }
 
 // The lower half of the word at `at`.

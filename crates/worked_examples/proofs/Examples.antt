@@ -8,31 +8,31 @@ use Rattle.text.specs.Strings
 use Rattle.text.specs.Same as TextSame
 use Rattle.codes.specs.Table
 use Rattle.codes.specs.Microsoft
-use Rattle.codes.specs.Flags
+use Rattle.flags.specs.Flags
 use Rattle.codes.specs.Variable
 use Rattle.reflection.specs.Rd11
 use Rattle.reflection.specs.Reflection
 use Rattle.reflection.specs.Texts
-use Rattle.reflection.specs.Nodes
-use Rattle.reflection.specs.Tables
+use Rattle.tables.specs.Nodes
+use Rattle.tables.specs.Tables
 use Rattle.reflection.specs.Contents
-use Rattle.reading.specs.Step as ReadStep
-use Rattle.reading.specs.Read
+use Rattle.read_spec.specs.Step as ReadStep
+use Rattle.read_spec.specs.Read
 use Rattle.readable.specs.Readable
-use Rattle.emit.specs.Digits
-use Rattle.emit.specs.Printable
-use Rattle.emit.specs.Written
-use Rattle.writing.specs.Step
-use Rattle.writing.specs.Records
-use Rattle.writing.specs.Same
-use Rattle.writing.specs.Layout
-use Rattle.writing.specs.Canonical
-use Rattle.writing.specs.Outcome
-use Rattle.writing.specs.Payload
-use Rattle.writing.specs.EdgeChunks
+use Rattle.text_output.specs.Digits
+use Rattle.text_output.specs.Printable
+use Rattle.text_output.specs.Written
+use Rattle.write_spec.specs.Step
+use Rattle.write_spec.specs.Records
+use Rattle.write_spec.specs.Same
+use Rattle.write_spec.specs.Layout
+use Rattle.write_spec.specs.Canonical
+use Rattle.write_spec.specs.Outcome
+use Rattle.write_spec.specs.Payload
+use Rattle.write_spec.specs.EdgeChunks
 use Rattle.spelling.specs.Names
 use Rattle.spelling.specs.Spelling
-use Rattle.spelling.specs.Grammar
+use Rattle.spelling_parse.specs.Grammar
 use Rattle.listing.specs.Listing
 use Rattle.worked_examples.specs.Example
 use Rattle.worked_examples.specs.Example.{AllHold}
@@ -60,27 +60,31 @@ unfolding Table.lookup Table.known Flags.bindingFlagsAllowed Microsoft.inputType
 codes = tt
 
 unfoldable reflections : Unit {0}
-unfolding Reflection.memberCount Reflection.mapType Reflection.mapBinding Reflection.mapVariable Reflection.mapBuffer Reflection.mapDef Texts.inPlace Texts.textBytes
+unfolding Reflection.memberCount Reflection.mapType Reflection.mapBinding Reflection.mapVariable Reflection.mapBuffer Reflection.mapDef Texts.inPlace
+    Texts.textBytes
 reflections = tt
 
 unfoldable contents : Unit {0}
-unfolding Nodes._>>=_ Nodes.nodesOf Tables.allVariables Contents.contents Contents.typeNames Contents.variableNames Contents.outerNames Contents.innerNames
+unfolding Nodes._>>=_ Nodes.nodesOf Reflection.allVariables Contents.contents Contents.typeNames Contents.variableNames Contents.outerNames Contents.innerNames
 contents = tt
 
 unfoldable reading-steps : Unit {0}
-unfolding ReadStep._>>=_ ReadStep.return ReadStep.refuse ReadStep.check ReadStep.textOr ReadStep.takeBinding ReadStep.takeBuffer ReadStep.takeVariable ReadStep.takeType
+unfolding ReadStep._>>=_ ReadStep.return ReadStep.refuse ReadStep.check ReadStep.textOr ReadStep.takeBinding ReadStep.takeBuffer ReadStep.takeVariable
+    ReadStep.takeType
 reading-steps = tt
 
 unfoldable types-read : Unit {0}
-unfolding Read.wordIf Read.readMany Read.onPath Read.readMembers Read.cstringOrEmpty Read.typeNameAt Read.numbersFrom Read.readType
+unfolding Words.wordIf Read.readMany Read.onPath Read.readMembers Read.cstringOrEmpty Read.typeNameAt Read.numbersFrom Read.readType
 types-read = tt
 
 unfoldable chunks-read : Unit {0}
-unfolding types-read Read.defaultAt Read.variableFromChunk Read.readVariable Read.bufferFromChunk Read.readBuffer Read.bindingFromChunk Read.readBinding Rd11.rd11Allowed Read.readRd11 Read.readTables Read.readChunk Read.read
+unfolding types-read Read.defaultAt Read.variableFromChunk Read.readVariable Read.bufferFromChunk Read.readBuffer Read.bindingFromChunk
+    Read.readBinding Rd11.rd11Allowed Read.readRd11 Read.readTables Read.readChunk Read.read
 chunks-read = tt
 
 unfoldable parts-readable : Unit {0}
-unfolding Readable.every Readable.nameReadable Readable.defaultReadable Readable.zeroUnless Readable.versionReadable Readable.bindingReadable Readable.numbersReadable
+unfolding Readable.every Readable.nameReadable Readable.defaultReadable Readable.zeroUnless Readable.versionReadable Readable.bindingReadable
+    Readable.numbersReadable
 parts-readable = tt
 
 unfoldable readable : Unit {0}
@@ -88,11 +92,13 @@ unfolding parts-readable Readable.typeReadable Readable.variableReadable Readabl
 readable = tt
 
 unfoldable writing-steps : Unit {0}
-unfolding Step._>>=_ Step.return Step.append Step.remember Step.paddingAt Step.pad Step.wordCells Step.ahead Step.find Step.once Step.rememberIf Step.unlessEmpty Step.below Step.cellsOf
+unfolding Step._>>=_ Step.return Step.append Step.addToPool Step.paddingAt Step.pad Step.wordCells Step.reserve Step.find Step.interned
+    Step.addToPoolIf Step.unlessEmpty Step.inMemberPool Step.cellsOf
 writing-steps = tt
 
 unfoldable records : Unit {0}
-unfolding Records.halves Records.typeWordsInChunk Records.variableWordsInChunk Records.bufferWordsInChunk Records.bindingWordsInChunk Records.rd11Words Records.headerWordsInChunk Records.rows
+unfolding Records.halves Records.typeWordsInChunk Records.variableWordsInChunk Records.bufferWordsInChunk Records.bindingWordsInChunk
+    Records.rd11Words Records.headerWordsInChunk Records.rows
 records = tt
 
 unfoldable same : Unit {0}
@@ -100,15 +106,17 @@ unfolding Same.numbersOf Same.sameType Same.sameList Same.rd11Numbers Same.sameB
 same = tt
 
 unfoldable parts-placed : Unit {0}
-unfolding Layout.zip Layout.nameCells Layout.placeOuterName Layout.placeInnerName Layout.placeDefault Layout.writeType Layout.placeType Layout.placeVariable Layout.placeVariables
+unfolding Layout.zip Layout.nameCells Layout.placeOuterName Layout.placeInnerName Layout.placeDefault Layout.writeType Layout.placeType
+    Layout.placeVariable Layout.placeVariables
 parts-placed = tt
 
 unfoldable layout : Unit {0}
-unfolding parts-placed Layout.placeSection Layout.placeSections Layout.placeOuterNames Layout.placeBufferParts Layout.placeBuffers Layout.placeBody Layout.placeChunk Layout.layout
+unfolding parts-placed Layout.placeSection Layout.placeSections Layout.placeOuterNames Layout.placeBufferParts Layout.placeBuffers Layout.placeBody
+    Layout.placeChunk Layout.layout
 layout = tt
 
 unfoldable written : Unit {0}
-unfolding Canonical.bytesOracle Canonical.fill Canonical.canonical Written.fitting Outcome.canonicalOr16 Outcome.write
+unfolding Canonical.bytesFacts Canonical.fill Canonical.canonical Written.fitting Outcome.canonicalOr16 Outcome.write
 written = tt
 
 unfoldable handed-back : Unit {0}
@@ -124,7 +132,8 @@ unfolding spelled Printable.printable Spelling.fieldsFit Spelling.typeName Spell
 declared = tt
 
 unfoldable parsed : Unit {0}
-unfolding Names.baseNumber Grammar.digitsValue Grammar.number Grammar.splitOnce Grammar.withoutLast Grammar.beforeDigit Grammar.fromDigit Grammar.core Grammar.parseType Grammar.spelledType
+unfolding Names.baseNumber Grammar.digitsValue Grammar.number Grammar.splitOnce Grammar.withoutLast Grammar.beforeDigit Grammar.fromDigit Grammar.core
+    Grammar.parseType Grammar.spelledType
 parsed = tt
 
 unfoldable listed : Unit {0}
@@ -148,7 +157,8 @@ unfolding Chunks.withBindings Chunks.binding Chunks.empty Chunks.structure Chunk
 chunk-contents = tt
 
 unfoldable groups : Unit {0}
-unfolding OfReading.readingExamples OfWriting.writingExamples OfSpelling.spellingExamples OfParsing.parsingExamples OfListing.listingExamples OfCodes.codeExamples
+unfolding OfReading.readingExamples OfWriting.writingExamples OfSpelling.spellingExamples OfParsing.parsingExamples OfListing.listingExamples
+    OfCodes.codeExamples
 groups = tt
 
 unfoldable table : Unit {0}

@@ -1,4 +1,4 @@
--- Chunks of document 01 that only the table speaks of, and what those that read hold. (Case V and its kin: crate writing, EdgeChunks.)
+-- Chunks of document 01 that only the table speaks of, and what those that read hold. (Case V and its kin: crate write_spec, EdgeChunks.)
 use mathlib.Core.List.{List, [], _∷_, _++_}
 use Prim.Native.Nat.{ℕ, zero, suc, _+_}
 use lib.ListN.{replicate, set}
@@ -6,8 +6,8 @@ use Rattle.reflection.specs.declared.Text.{Text}
 use Rattle.reflection.specs.Reflection.{TypeNumbers, TypeDesc, typeDesc, Members, noMember, member, noRd11, ResourceBinding, ResourceDef}
 use Rattle.reflection.specs.Texts.{inChunk}
 use Rattle.reflection.specs.Contents.{Bytes}
-use Rattle.emit.specs.Ascii.{ascii}
-use Rattle.writing.specs.EdgeChunks.{bytes, header, major4, globalsText, kText, noText, float}
+use Rattle.text_output.specs.Ascii.{ascii}
+use Rattle.write_spec.specs.EdgeChunks.{bytes, header, major4, globalsText, kText, noText, float}
 
 -- Case E: "28 zero bytes with byte 17 set to 4".
 unfoldable pub caseE : Bytes

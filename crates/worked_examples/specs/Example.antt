@@ -21,14 +21,14 @@ use Rattle.reflection.specs.declared.ResourceBinding.{ResourceBinding}
 use Rattle.reflection.specs.Outcome.{Outcome, ok, refused, because}
 use Rattle.reflection.specs.Reflection.{ResourceDef}
 use Rattle.reflection.specs.Contents.{Bytes}
-use Rattle.reading.specs.Step.{Room}
-use Rattle.reading.specs.Read.{read}
-use Rattle.emit.specs.Written.{fitting}
-use Rattle.writing.specs.Outcome.{write}
-use Rattle.writing.specs.Payload.{Part, handedBack, payload}
-use Rattle.spelling.specs.declared.SpelledType.{SpelledType}
+use Rattle.read_spec.specs.Step.{Room}
+use Rattle.read_spec.specs.Read.{read}
+use Rattle.text_output.specs.Written.{fitting}
+use Rattle.write_spec.specs.Outcome.{write}
+use Rattle.write_spec.specs.Payload.{Part, handedBack, payload}
+use Rattle.spelling_parse.specs.declared.SpelledType.{SpelledType}
 use Rattle.spelling.specs.Spelling.{typeName, declaration}
-use Rattle.spelling.specs.Grammar.{parseType, spelledType}
+use Rattle.spelling_parse.specs.Grammar.{parseType, spelledType}
 use Rattle.listing.specs.Listing.{listed}
 
 -- What is asked, and last what is right. Where names are printed, the chunk and the text of edits that hold them come first.

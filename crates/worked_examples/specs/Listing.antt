@@ -7,7 +7,7 @@ use Rattle.reflection.specs.declared.ResourceBinding.{ResourceBinding}
 use Rattle.reflection.specs.Outcome.{Outcome, ok}
 use Rattle.reflection.specs.Texts.{inChunk}
 use Rattle.reflection.specs.Contents.{Bytes}
-use Rattle.emit.specs.Ascii.{ascii}
+use Rattle.text_output.specs.Ascii.{ascii}
 use Rattle.worked_examples.specs.Example.{Example, lists, refusal}
 
 -- A binding with a name, an input type, a dimension, a slot, a count and flags.

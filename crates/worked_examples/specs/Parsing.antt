@@ -3,8 +3,8 @@ use mathlib.Core.List.{List, [], _∷_, _++_}
 use Prim.Native.Nat.{ℕ}
 use Rattle.reflection.specs.Outcome.{because}
 use Rattle.reflection.specs.Contents.{Bytes}
-use Rattle.emit.specs.Ascii.{ascii}
-use Rattle.spelling.specs.declared.SpelledType.the-variants.{Understood, Refused}
+use Rattle.text_output.specs.Ascii.{ascii}
+use Rattle.spelling_parse.specs.declared.SpelledType.the-variants.{Understood, Refused}
 use Rattle.worked_examples.specs.Example.{Example, parses}
 
 -- A text with class, base, rows, columns and elements; or a text that is 18.

@@ -8,8 +8,8 @@ use Rattle.reflection.specs.Reflection.{ResourceDef, noMember, member, rd11}
 use Rattle.reflection.specs.Texts.{inChunk}
 use Rattle.reflection.specs.Contents.{Bytes}
 use Rattle.reflection.specs.Limits.{bindingRoom, bufferRoom, variableRoom, typeRoom}
-use Rattle.reading.specs.Step.{Room, room, fullRoom}
-use Rattle.writing.specs.EdgeChunks.{header, major4, major5, noText, caseV, caseV5, float, globals, readV}
+use Rattle.read_spec.specs.Step.{Room, room, fullRoom}
+use Rattle.write_spec.specs.EdgeChunks.{header, major4, major5, noText, caseV, caseV5, float, globals, readV}
 use Rattle.worked_examples.specs.Example.{Example, reads, refusal}
 use Rattle.worked_examples.specs.Chunks.{caseE, oneBinding, withType, structOf, nested, twice, caseVDefault}
 use Rattle.worked_examples.specs.Chunks.{withBindings, binding, empty, structure, nestedType}

@@ -6,7 +6,7 @@ use Rattle.reflection.specs.declared.TypeDesc.{TypeDesc}
 use Rattle.reflection.specs.Outcome.{ok}
 use Rattle.reflection.specs.Texts.{inChunk}
 use Rattle.reflection.specs.Contents.{Bytes}
-use Rattle.emit.specs.Ascii.{ascii}
+use Rattle.text_output.specs.Ascii.{ascii}
 use Rattle.worked_examples.specs.Example.{Example, spells, spellsInto, declares, refusal}
 
 -- The chunk, and the text of edits with a byte that begins no sequence at its end.

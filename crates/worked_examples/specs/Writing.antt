@@ -5,10 +5,10 @@ use Rattle.reflection.specs.Outcome.{ok}
 use Rattle.reflection.specs.Reflection.{ResourceDef, rd11}
 use Rattle.reflection.specs.Texts.{inChunk}
 use Rattle.reflection.specs.Contents.{Bytes, contents}
-use Rattle.emit.specs.Ascii.{ascii}
-use Rattle.writing.specs.Outcome.{scratchSize}
-use Rattle.writing.specs.Payload.{wholeChunk, written}
-use Rattle.writing.specs.EdgeChunks.{bytes, header, major4, major5, noText, caseV, caseV5, float, globals, readV, floatsAB}
+use Rattle.text_output.specs.Ascii.{ascii}
+use Rattle.write_spec.specs.Outcome.{scratchSize}
+use Rattle.write_spec.specs.Payload.{wholeChunk, written}
+use Rattle.write_spec.specs.EdgeChunks.{bytes, header, major4, major5, noText, caseV, caseV5, float, globals, readV, floatsAB}
 use Rattle.worked_examples.specs.Example.{Example, writes, handsBack, refusal}
 use Rattle.worked_examples.specs.Chunks.{caseE, caseVDefault, chunkAB, withBindings, binding, empty}
 

@@ -1,5 +1,5 @@
 //! Compares the port's canonical form with rdef.rs: all fixed cases, then N fresh ones and N / 10 pairs of
-//! evenings.
+//! reflections.
 //!
 //!     compare_canonical [N] [SEED] [--model]
 //!

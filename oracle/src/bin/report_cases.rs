@@ -1,5 +1,5 @@
-//! Writes the stored reports: chunks to the file `stdin` of a folder, and to its file `stdout` the reports
-//! of what rdef.rs reads, which the program `report_vectors` must print.
+//! Writes the stored reports: chunks to the file `stdin` of a folder, and to its file `stdout`, behind what
+//! stands there before them, the reports of what rdef.rs reads, which the program `replay` must print.
 //!
 //!     report_cases FOLDER
 //!
@@ -13,7 +13,11 @@ fn main() {
     let chunks = stored::chunks();
     let (input, output) = (stored::input(&chunks), stored::output(&chunks));
     println!("{} chunks, {} bytes, {} bytes of reports", chunks.len(), input.len(), output.len());
-    for (name, bytes) in [("stdin", &input[..]), ("stdout", output.as_bytes())] {
-        std::fs::write(Path::new(&folder).join(name), bytes).expect("the file can be written");
+    let (stdin, stdout) = (Path::new(&folder).join("stdin"), Path::new(&folder).join("stdout"));
+    let mut printed = std::fs::read_to_string(&stdout).expect("the folder has a file stdout");
+    printed.truncate(stored::reports_at(&printed).expect("the file stdout has the heading of the reports"));
+    printed += &output;
+    for (file, bytes) in [(stdin, &input[..]), (stdout, printed.as_bytes())] {
+        std::fs::write(file, bytes).expect("the file can be written");
     }
 }

@@ -1,6 +1,7 @@
-//! Holds the program `report_vectors` to the reports of what rdef.rs reads, and with the reader makes the
+//! Holds the program `replay` to the reports of what rdef.rs reads, and with the reader makes the
 //! comparison of reading.
 
+use super::stored::HEADING;
 use super::{input_chunk, input_head, report};
 use crate::check;
 use crate::comparison::{hex, Comparison, Tally};
@@ -11,9 +12,9 @@ use std::io::{self, BufRead, BufReader, Read, Write};
 use std::ops::Range;
 use std::process::{Command, Stdio};
 
-/// The port's program, as `rt check report_vectors` builds it.
+/// The port's program, as `rt check replay` builds it. It prints the reports after what it says of stored files.
 pub fn program() -> Command {
-    Command::new(concat!(env!("CARGO_MANIFEST_DIR"), "/../target/bin/report_vectors"))
+    Command::new(concat!(env!("CARGO_MANIFEST_DIR"), "/../target/bin/replay"))
 }
 
 /// What is compared: the reader, and the program that prints reports, if it is to be run.
@@ -70,6 +71,7 @@ pub fn reports(program: &mut Command, generator: &Generator, numbers: Range<u64>
             // A program that stops early shows in what it printed.
             let _ = put_chunks(&mut input, generator, chunks);
         });
+        skip_to_reports(&mut output);
         for number in numbers {
             let (kind, chunk) = generator.chunk(number);
             let (expected, printed) = (report(&chunk), next_report(&mut output));
@@ -103,6 +105,17 @@ fn put_chunks(input: &mut impl Write, generator: &Generator, numbers: Range<u64>
         input.write_all(&input_chunk(&generator.chunk(number).1))?;
     }
     Ok(())
+}
+
+/// Reads the lines up to the heading of the reports, or to the end of the output.
+fn skip_to_reports(output: &mut impl BufRead) {
+    let mut line = String::new();
+    while line != HEADING {
+        line.clear();
+        if matches!(output.read_line(&mut line), Ok(0) | Err(_)) {
+            return;
+        }
+    }
 }
 
 /// The lines up to the empty one, or to the end of the output.

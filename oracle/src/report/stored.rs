@@ -41,14 +41,22 @@ pub fn chunks() -> Vec<Vec<u8>> {
     chunks
 }
 
-/// What `report_vectors` reads.
+/// What the program `replay` reads on standard input.
 pub fn input(chunks: &[Vec<u8>]) -> Vec<u8> {
     let mut input = input_head(chunks.len()).to_vec();
     chunks.iter().for_each(|chunk| input.extend(input_chunk(chunk)));
     input
 }
 
-/// What it must print: each report, with an empty line after it.
+/// What it must print after `HEADING`: each report, with an empty line after it.
 pub fn output(chunks: &[Vec<u8>]) -> String {
     chunks.iter().map(|chunk| report(chunk) + "\n").collect()
+}
+
+/// The line after which the program prints the reports, behind what it prints of the stored files.
+pub const HEADING: &str = "reports\n";
+
+/// Where the reports begin in what the program prints.
+pub fn reports_at(printed: &str) -> Option<usize> {
+    printed.find(&format!("\n{HEADING}")).map(|heading| heading + 1 + HEADING.len())
 }

@@ -13,7 +13,7 @@ pub struct Checker {
     writer: Writer,
     /// How many answers there were with each of `NUMBERS`.
     pub counts: [u64; 4],
-    /// Pairs of evenings, and how many of them were written.
+    /// Pairs of reflections, and how many of them were written.
     pub pairs: u64,
     pub written_pairs: u64,
     pub tally: Tally,
@@ -32,7 +32,7 @@ impl Comparison for Checker {
     }
 
     fn report(&self) -> String {
-        let pairs = format!("{} pairs of evenings, {} of them written\n", self.pairs, self.written_pairs);
+        let pairs = format!("{} pairs of reflections, {} of them written\n", self.pairs, self.written_pairs);
         counts_lines(&self.counts) + &pairs + &self.tally.to_string()
     }
 
@@ -49,7 +49,7 @@ impl Comparison for Checker {
         }
     }
 
-    /// So many cases, and a tenth of that in pairs of evenings.
+    /// So many cases, and a tenth of that in pairs of reflections.
     fn compare_fresh(&mut self, count: u64, seed: u64, rng: &mut Rng) {
         let generator = Generator::new(seed);
         for number in 0..count {
@@ -77,7 +77,7 @@ impl Checker {
         }
     }
 
-    /// Two evenings, with equal room: both are compared, and what is written must be alike but for the
+    /// Two reflections, with equal room: both are compared, and what is written must be alike but for the
     /// bytes of the defaults.
     pub fn compare_pair(&mut self, name: &str, pair: [&Case; 2], rng: &mut Rng) {
         let [a, b] = pair.map(|case| self.compare(name, case, rng));
@@ -91,10 +91,10 @@ impl Checker {
                 self.written_pairs += 1;
                 alike([&pair[0].held, &pair[1].held], [&a, &b])
             }
-            _ => Err("one evening is written or refused otherwise than the other".to_string()),
+            _ => Err("one reflection is written or refused otherwise than the other".to_string()),
         };
         if let Err(what) = outcome {
-            self.tally.differs(|| format!("{name}: {what}\none evening: {}\nthe other: {}", pair[0], pair[1]));
+            self.tally.differs(|| format!("{name}: {what}\none reflection: {}\nthe other: {}", pair[0], pair[1]));
         }
     }
 

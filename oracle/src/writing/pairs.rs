@@ -1,4 +1,4 @@
-//! Two evenings: reflections that are alike but for the bytes of their defaults. Document 01, demand 3, as
+//! Two reflections: reflections that are alike but for the bytes of their defaults. Document 01, demand 3, as
 //! a test on what was written.
 
 use super::Held;
@@ -8,7 +8,7 @@ use crate::model;
 use crate::tables::{Rooms, VARIABLE_WORDS};
 use std::collections::HashMap;
 
-/// The other evening: each default has other bytes of the same length, and two are equal exactly where
+/// The other reflection: each default has other bytes of the same length, and two are equal exactly where
 /// they were before. Names may lie elsewhere. None where the text of edits would be too long.
 pub fn other(held: &Held, rng: &mut Rng) -> Option<Held> {
     let mut other = held.clone();
@@ -41,8 +41,8 @@ fn change(length: usize, rng: &mut Rng) -> Vec<(u8, u8)> {
     (0..length).map(|_| (rng.byte() | 1, rng.byte())).collect()
 }
 
-/// Whether two written evenings are alike: length, the places of the defaults as they are read out of the
-/// written bytes, and every byte outside of them; and at these places stand the evenings' own bytes.
+/// Whether two written reflections are alike: length, the places of the defaults as they are read out of the
+/// written bytes, and every byte outside of them; and at these places stand the reflections' own bytes.
 pub fn alike(pair: [&Held; 2], written: [&[u8]; 2]) -> Result<(), String> {
     let [a, b] = written;
     ensure(a.len() == b.len(), || format!("{} and {} bytes", a.len(), b.len()))?;

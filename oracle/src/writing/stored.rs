@@ -16,7 +16,7 @@ const WANTED: [(Kind, [usize; 4]); 4] = [
     (Kind::Faulty, [0, 3, 150, 0]),
 ];
 
-/// How many pairs of evenings.
+/// How many pairs of reflections.
 const PAIRS: u64 = 60;
 
 /// No generated case takes more bytes of the file than this.
@@ -71,7 +71,7 @@ pub fn cases() -> Vec<Case> {
             pairs += 1;
         }
     }
-    // Some near the limits, as they are and as another evening.
+    // Some near the limits, as they are and as another reflection.
     for (_, held) in fixed::limits() {
         if readable::readable(&held).is_ok() && held.chunk.len() + held.edits.len() < 24_000 {
             let words: usize = held.words.tables().iter().map(|table| table.len()).sum();

@@ -11,35 +11,8 @@ Inv-loop out₀ used₀ chunk def variables types line₀ root₀ i₀ out used 
 abbrev μ-loop : tie.MeasureT-loop
 μ-loop out₀ used₀ chunk def variables types line₀ root₀ i₀ out used line root i = def .«variable_count» - i
 
-loop-holds : tie.Need-loop-holds Inv-loop μ-loop
-loop-holds c = search needs
-
-cast-if1 : tie.Need-cast-if1 Inv-loop μ-loop
-cast-if1 c = search needs
-
-variable-at-requires : tie.Need-variable-at-requires Inv-loop μ-loop
-variable-at-requires c κs = search needs
-
-type-at-requires : tie.Need-type-at-requires Inv-loop μ-loop
-type-at-requires c κs = search needs
-
-declaration-line-requires : tie.Need-declaration-line-requires Inv-loop μ-loop
-declaration-line-requires c κs = search needs
-
-node-after-requires : tie.Need-node-after-requires Inv-loop μ-loop
-node-after-requires c κs = search needs
-
 add-i : tie.Need-add-i Inv-loop μ-loop
 add-i c = omega (arith, c .before .before .before .before .before .before .before .before .struct-known .given)
-
-loop-less : tie.Need-loop-less Inv-loop μ-loop
-loop-less c = search needs
-
-loop-again : tie.Need-loop-again Inv-loop μ-loop
-loop-again c = search needs
-
-returns : tie.Need-returns Inv-loop μ-loop
-returns c = search needs
 
 pub declaration-lines-spec : {M : Type 1} → statement M
 declaration-lines-spec =
@@ -47,13 +20,13 @@ declaration-lines-spec =
     (tie.spec
     Inv-loop
     μ-loop
-    loop-holds
-    cast-if1
-    variable-at-requires
-    type-at-requires
-    declaration-line-requires
-    node-after-requires
+    (λ c. search needs)
+    (λ c. search needs)
+    (λ c κs. search needs)
+    (λ c κs. search needs)
+    (λ c κs. search needs)
+    (λ c κs. search needs)
     add-i
-    loop-less
-    loop-again
-    returns)
+    (λ c. search needs)
+    (λ c. search needs)
+    (λ c. search needs))

@@ -7,53 +7,48 @@ use Rattle.payload.proofs.enough.Tie as tie
 
 returns : tie.Need-returns
 unfolding roomEnough
-returns c =
-    let if1-at = c .if1 in
-    let args-at = c .before .args in
-    rw (lt-leb bindingTable (args-at .bindings) (if1-at .taken))
+returns c = rw (lt-leb bindingTable (c .before .args .bindings) (c .if1 .taken))
 
 returns-2 : tie.Need-returns-2
 unfolding roomEnough
 returns-2 c =
-    let if2-at = c .if2 in
-    let if1-at = c .before .if1 in
-    let args-at = c .before .before .args in
-    rw (le-leb bindingTable (args-at .bindings) (if1-at .left), lt-leb bufferTable (args-at .buffers) (if2-at .taken))
+    let at-bindings = c .before in
+    let a = at-bindings .before .args in
+    rw (le-leb bindingTable (a .bindings) (at-bindings .if1 .left), lt-leb bufferTable (a .buffers) (c .if2 .taken))
 
 returns-3 : tie.Need-returns-3
 unfolding roomEnough
 returns-3 c =
-    let if3-at = c .if3 in
-    let if2-at = c .before .if2 in
-    let if1-at = c .before .before .if1 in
-    let args-at = c .before .before .before .args in
-    rw (le-leb bindingTable (args-at .bindings) (if1-at .left), le-leb bufferTable (args-at .buffers) (if2-at .left), lt-leb variableTable (args-at .variables) (if3-at .taken))
+    let at-buffers = c .before in
+    let at-bindings = at-buffers .before in
+    let a = at-bindings .before .args in
+    let bindings = le-leb bindingTable (a .bindings) (at-bindings .if1 .left) in
+    let buffers = le-leb bufferTable (a .buffers) (at-buffers .if2 .left) in
+    rw (bindings, buffers, lt-leb variableTable (a .variables) (c .if3 .taken))
 
 returns-4 : tie.Need-returns-4
 unfolding roomEnough
 returns-4 c =
-    let if4-at = c .if4 in
-    let if3-at = c .before .if3 in
-    let if2-at = c .before .before .if2 in
-    let if1-at = c .before .before .before .if1 in
-    let args-at = c .before .before .before .before .args in
-    let bindings = le-leb bindingTable (args-at .bindings) (if1-at .left) in
-    let buffers = le-leb bufferTable (args-at .buffers) (if2-at .left) in
-    let variables = le-leb variableTable (args-at .variables) (if3-at .left) in
-    rw (bindings, buffers, variables, lt-leb typeTable (args-at .types) (if4-at .taken))
+    let at-variables = c .before in
+    let at-buffers = at-variables .before in
+    let at-bindings = at-buffers .before in
+    let a = at-bindings .before .args in
+    let bindings = le-leb bindingTable (a .bindings) (at-bindings .if1 .left) in
+    let buffers = le-leb bufferTable (a .buffers) (at-buffers .if2 .left) in
+    let variables = le-leb variableTable (a .variables) (at-variables .if3 .left) in
+    rw (bindings, buffers, variables, lt-leb typeTable (a .types) (c .if4 .taken))
 
 returns-5 : tie.Need-returns-5
 unfolding roomEnough
 returns-5 c =
-    let if4-at = c .if4 in
-    let if3-at = c .before .if3 in
-    let if2-at = c .before .before .if2 in
-    let if1-at = c .before .before .before .if1 in
-    let args-at = c .before .before .before .before .args in
-    let bindings = le-leb bindingTable (args-at .bindings) (if1-at .left) in
-    let buffers = le-leb bufferTable (args-at .buffers) (if2-at .left) in
-    let variables = le-leb variableTable (args-at .variables) (if3-at .left) in
-    rw (bindings, buffers, variables, le-leb typeTable (args-at .types) (if4-at .left))
+    let at-variables = c .before in
+    let at-buffers = at-variables .before in
+    let at-bindings = at-buffers .before in
+    let a = at-bindings .before .args in
+    let bindings = le-leb bindingTable (a .bindings) (at-bindings .if1 .left) in
+    let buffers = le-leb bufferTable (a .buffers) (at-buffers .if2 .left) in
+    let variables = le-leb variableTable (a .variables) (at-variables .if3 .left) in
+    rw (bindings, buffers, variables, le-leb typeTable (a .types) (c .if4 .left))
 
 pub enough-spec : {M : Type 1} → statement M
 enough-spec = tie.close (tie.spec returns returns-2 returns-3 returns-4 returns-5)

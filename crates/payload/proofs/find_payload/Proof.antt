@@ -1,156 +1,109 @@
 -- `find_payload` meets its contract: each test of the code is a test of the payload, and what is written is what `write_rdef_canonical` writes.
-use mathlib.Core.Path.{refl, sym, ap, _∙_}
+use mathlib.Core.Path.{_≡_, refl, sym, ap, _∙_}
 use borrow.Author.Tests.{not-true, not-false}
 use lib.ListN.{length, length-replicate}
 use Rattle.reflection.specs.Outcome.{Outcome}
-use Rattle.readable.specs.Readable.{tableContents, readable}
-use Rattle.writing.specs.Outcome.{write}
-use Rattle.writing.specs.Payload.{Part}
-use Rattle.payload.specs.Answer.{roomEnough, payloadAnswer, payloadOutput, writtenAnswer}
+use Rattle.reflection.specs.Contents.{Bytes}
+use Rattle.readable.specs.Readable.{readable}
+use Rattle.write_spec.specs.Payload.{Part}
+use Rattle.payload.specs.declared.Payload.{Payload}
+use Rattle.payload.specs.Answer.{payloadAnswer, payloadOutput, writtenAnswer, PayloadWritten}
 use Rattle.payload.proofs.Answers.{enough-long, no-room, not-readable, the-chunk, the-output, written-answer, written-output}
 use borrow.Author.Needs.{needs}
 use Rattle.payload.proofs.find_payload.Statement.{statement}
 use Rattle.payload.proofs.find_payload.Tie as tie
 
-enough-requires : tie.Need-enough-requires
-enough-requires c κs = search needs
-
-refuse-requires : tie.Need-refuse-requires
-refuse-requires c κs = search needs
-
-same-length : tie.Need-same-length
-same-length c = search needs
+-- What is left of an outcome is left of one that it equals.
+left-as : {outcome asked : Outcome Part} {before after : Bytes} {r : Payload} → PayloadWritten outcome before after r → asked ≡ outcome
+    → PayloadWritten asked before after r
+left-as {before = before} left is = record {
+  answer = left .answer ∙ ap payloadAnswer (sym is);
+  out = left .out ∙ ap (λ (o : Outcome Part). payloadOutput o before) (sym is);
+}
 
 returns : tie.Need-returns
 returns c =
-    let refuse-at = c .before .before .refuse in
-    let if1-at = c .before .before .before .before .if1 in
-    let enough-at = c .before .before .before .before .before .enough in
-    let args-at = c .before .before .before .before .before .before .before .before .before .before .before .before .before .before .before .before .before .before .args in
-    let is = no-room (roomEnough (length (args-at .found-bindings .now)) (length (args-at .found-buffers .now)) (length (args-at .found-variables .now)) (length (args-at .found-types .now)) (length (args-at .scratch .now))) (length (args-at .out .now)) (args-at .chunk .now) (tableContents (args-at .chunk .now) (args-at .edits .now) (args-at .def) (args-at .bindings .now) (args-at .buffers .now) (args-at .variables .now) (args-at .types .now)) (sym (enough-at .ensures) ∙ not-true _ (if1-at .taken)) in
-    (refuse-at .ensures .0 ∙ ap payloadAnswer (sym is), (refuse-at .ensures .1 ∙ ap (λ (o : Outcome Part). payloadOutput o (args-at .out .now)) (sym is), (refl, (refl, (refl, (refl, refl))))))
-
-readable-requires : tie.Need-readable-requires
-readable-requires c κs = search needs
-
-refuse-requires-2 : tie.Need-refuse-requires-2
-refuse-requires-2 c κs = search needs
-
-same-length-2 : tie.Need-same-length-2
-same-length-2 c = search needs
+    let at-refuse = c .before .before in
+    let at-if = at-refuse .before .before in
+    let at-enough = at-if .before in
+    let short = sym (at-enough .enough .ensures) ∙ not-true _ (at-if .if1 .taken) in
+    (left-as (at-refuse .refuse .ensures) (no-room _ _ _ _ short), (refl, (refl, (refl, (refl, refl)))))
 
 returns-2 : tie.Need-returns-2
 unfolding readable
 returns-2 c =
-    let refuse2-at = c .before .before .refuse2 in
-    let if2-at = c .before .before .before .before .if2 in
-    let readable-at = c .before .before .before .before .before .readable in
-    let if1-at = c .before .before .before .before .before .before .if1 in
-    let enough-at = c .before .before .before .before .before .before .before .enough in
-    let args-at = c .before .before .before .before .before .before .before .before .before .before .before .before .before .before .before .before .before .before .before .before .args in
-    let is = not-readable (roomEnough (length (args-at .found-bindings .now)) (length (args-at .found-buffers .now)) (length (args-at .found-variables .now)) (length (args-at .found-types .now)) (length (args-at .scratch .now))) (length (args-at .out .now)) (args-at .chunk .now) (tableContents (args-at .chunk .now) (args-at .edits .now) (args-at .def) (args-at .bindings .now) (args-at .buffers .now) (args-at .variables .now) (args-at .types .now)) (sym (enough-at .ensures) ∙ not-false _ (if1-at .left)) (sym (readable-at .ensures) ∙ not-true _ (if2-at .taken)) in
-    (refuse2-at .ensures .0 ∙ ap payloadAnswer (sym is), (refuse2-at .ensures .1 ∙ ap (λ (o : Outcome Part). payloadOutput o (args-at .out .now)) (sym is), (refl, (refl, (refl, (refl, refl))))))
+    let at-refuse = c .before .before in
+    let at-if2 = at-refuse .before .before in
+    let at-readable = at-if2 .before in
+    let at-if1 = at-readable .before in
+    let at-enough = at-if1 .before in
+    let room = sym (at-enough .enough .ensures) ∙ not-false _ (at-if1 .if1 .left) in
+    let unreadable = sym (at-readable .readable .ensures) ∙ not-true _ (at-if2 .if2 .taken) in
+    (left-as (at-refuse .refuse2 .ensures) (not-readable _ _ _ _ room unreadable), (refl, (refl, (refl, (refl, refl)))))
 
 unedited-requires : tie.Need-unedited-requires
 unedited-requires c κs =
-    let if2-at = c .before .before .before .before .if2 in
-    let readable-at = c .before .before .before .before .before .readable in
-    let if1-at = c .before .before .before .before .before .before .if1 in
-    let enough-at = c .before .before .before .before .before .before .before .enough in
-    let args-at = c .before .before .before .before .before .before .before .before .before .before .before .before .before .before .before .before .before .before .before .before .args in
-    let long = enough-long (length (args-at .found-bindings .now)) (length (args-at .found-buffers .now)) (length (args-at .found-variables .now)) (length (args-at .found-types .now)) (length (args-at .scratch .now)) (sym (enough-at .ensures) ∙ not-false _ (if1-at .left)) in
-    ((sym (readable-at .ensures) ∙ not-false _ (if2-at .left)), (long .bindings-long, (long .buffers-long, (long .variables-long, long .types-long))))
-
-same-length-3 : tie.Need-same-length-3
-same-length-3 c = search needs
-
-same-length-4 : tie.Need-same-length-4
-same-length-4 c = search needs
-
-same-length-5 : tie.Need-same-length-5
-same-length-5 c = search needs
-
-same-length-6 : tie.Need-same-length-6
-same-length-6 c = search needs
+    let at-if2 = c .before .before .before .before in
+    let at-readable = at-if2 .before in
+    let at-if1 = at-readable .before in
+    let at-enough = at-if1 .before in
+    let long = enough-long _ _ _ _ _ (sym (at-enough .enough .ensures) ∙ not-false _ (at-if1 .if1 .left)) in (
+      sym (at-readable .readable .ensures) ∙ not-false _ (at-if2 .if2 .left),
+      (long .bindings-long, (long .buffers-long, (long .variables-long, long .types-long))),
+    )
 
 returns-3 : tie.Need-returns-3
 unfolding readable payloadAnswer payloadOutput
 returns-3 c =
-    let if3-at = c .if3 in
-    let unedited-at = c .before .before .before .before .before .before .before .before .before .unedited in
-    let if2-at = c .before .before .before .before .before .before .before .before .before .before .before .before .before .before .if2 in
-    let readable-at = c .before .before .before .before .before .before .before .before .before .before .before .before .before .before .before .readable in
-    let if1-at = c .before .before .before .before .before .before .before .before .before .before .before .before .before .before .before .before .if1 in
-    let enough-at = c .before .before .before .before .before .before .before .before .before .before .before .before .before .before .before .before .before .enough in
-    let args-at = c .before .before .before .before .before .before .before .before .before .before .before .before .before .before .before .before .before .before .before .before .before .before .before .before .before .before .before .before .before .before .args in
-    let is = the-chunk (roomEnough (length (args-at .found-bindings .now)) (length (args-at .found-buffers .now)) (length (args-at .found-variables .now)) (length (args-at .found-types .now)) (length (args-at .scratch .now))) (length (args-at .out .now)) (args-at .chunk .now) (tableContents (args-at .chunk .now) (args-at .edits .now) (args-at .def) (args-at .bindings .now) (args-at .buffers .now) (args-at .variables .now) (args-at .types .now)) (sym (enough-at .ensures) ∙ not-false _ (if1-at .left)) (sym (readable-at .ensures) ∙ not-false _ (if2-at .left)) (sym (unedited-at .ensures .0) ∙ if3-at .taken) in
-    (sym (ap payloadAnswer is), (sym (ap (λ (o : Outcome Part). payloadOutput o (args-at .out .now)) is), (unedited-at .ensures .1 .0, (unedited-at .ensures .1 .1 .0, (unedited-at .ensures .1 .1 .1 .0, (unedited-at .ensures .1 .1 .1 .1, refl))))))
-
-write-rdef-canonical-requires : tie.Need-write-rdef-canonical-requires
-write-rdef-canonical-requires c κs = search needs
-
-written-payload-requires : tie.Need-written-payload-requires
-written-payload-requires c κs = search needs
-
-same-length-7 : tie.Need-same-length-7
-same-length-7 c = search needs
-
-same-length-8 : tie.Need-same-length-8
-same-length-8 c = search needs
-
-same-length-9 : tie.Need-same-length-9
-same-length-9 c = search needs
-
-same-length-10 : tie.Need-same-length-10
-same-length-10 c = search needs
-
-same-length-11 : tie.Need-same-length-11
-same-length-11 c = search needs
-
-same-length-12 : tie.Need-same-length-12
-same-length-12 c = search needs
+    let at-unedited = c .before .before .before .before .before .before .before .before .before in
+    let at-if2 = at-unedited .before .before .before .before .before in
+    let at-readable = at-if2 .before in
+    let at-if1 = at-readable .before in
+    let at-enough = at-if1 .before in
+    let a = at-enough .before .before .before .before .before .before .before .before .before .before .before .before .before .args in
+    let room = sym (at-enough .enough .ensures) ∙ not-false _ (at-if1 .if1 .left) in
+    let reads = sym (at-readable .readable .ensures) ∙ not-false _ (at-if2 .if2 .left) in
+    let same = at-unedited .unedited .ensures in
+    let is = the-chunk _ (length (a .out .now)) _ _ room reads (sym (same .0) ∙ c .if3 .taken) in (
+      record { answer = sym (ap payloadAnswer is); out = sym (ap (λ (o : Outcome Part). payloadOutput o (a .out .now)) is) },
+      (same .1 .0, (same .1 .1 .0, (same .1 .1 .1 .0, (same .1 .1 .1 .1, refl)))),
+    )
 
 returns-4 : tie.Need-returns-4
 unfolding readable
 returns-4 c =
-    let written-payload-at = c .written-payload in
-    let write-rdef-canonical-at = c .before .before .before .before .before .write-rdef-canonical in
-    let if3-at = c .before .before .before .before .before .before .before .before .if3 in
-    let unedited-at = c .before .before .before .before .before .before .before .before .before .before .before .before .before .before .before .before .before .unedited in
-    let if2-at = c .before .before .before .before .before .before .before .before .before .before .before .before .before .before .before .before .before .before .before .before .before .before .if2 in
-    let readable-at = c .before .before .before .before .before .before .before .before .before .before .before .before .before .before .before .before .before .before .before .before .before .before .before .readable in
-    let if1-at = c .before .before .before .before .before .before .before .before .before .before .before .before .before .before .before .before .before .before .before .before .before .before .before .before .if1 in
-    let enough-at = c .before .before .before .before .before .before .before .before .before .before .before .before .before .before .before .before .before .before .before .before .before .before .before .before .before .enough in
-    let args-at = c .before .before .before .before .before .before .before .before .before .before .before .before .before .before .before .before .before .before .before .before .before .before .before .before .before .before .before .before .before .before .before .before .before .before .before .before .before .before .args in
-    let long = enough-long (length (args-at .found-bindings .now)) (length (args-at .found-buffers .now)) (length (args-at .found-variables .now)) (length (args-at .found-types .now)) (length (args-at .scratch .now)) (sym (enough-at .ensures) ∙ not-false _ (if1-at .left)) in
-    let outcome = write (length (args-at .scratch .now)) (length (args-at .out .now)) (tableContents (args-at .chunk .now) (args-at .edits .now) (args-at .def) (args-at .bindings .now) (args-at .buffers .now) (args-at .variables .now) (args-at .types .now)) in
-    let is = the-output (roomEnough (length (args-at .found-bindings .now)) (length (args-at .found-buffers .now)) (length (args-at .found-variables .now)) (length (args-at .found-types .now)) (length (args-at .scratch .now))) (length (args-at .out .now)) (args-at .chunk .now) (length (args-at .scratch .now)) (tableContents (args-at .chunk .now) (args-at .edits .now) (args-at .def) (args-at .bindings .now) (args-at .buffers .now) (args-at .variables .now) (args-at .types .now)) (long .scratch-long) (sym (enough-at .ensures) ∙ not-false _ (if1-at .left)) (sym (readable-at .ensures) ∙ not-false _ (if2-at .left)) (sym (unedited-at .ensures .0) ∙ if3-at .left) in
-    (written-payload-at .ensures ∙ ap writtenAnswer (write-rdef-canonical-at .ensures .0) ∙ sym (written-answer outcome) ∙ ap payloadAnswer (sym is), (write-rdef-canonical-at .ensures .1 .0 ∙ sym (written-output outcome (args-at .out .now)) ∙ ap (λ (o : Outcome Part). payloadOutput o (args-at .out .now)) (sym is), (unedited-at .ensures .1 .0, (unedited-at .ensures .1 .1 .0, (unedited-at .ensures .1 .1 .1 .0, (unedited-at .ensures .1 .1 .1 .1, ap length (write-rdef-canonical-at .ensures .1 .1) ∙ length-replicate (length (args-at .scratch .now)) 0))))))
+    let at-write = c .before .before .before .before .before in
+    let at-if3 = at-write .before .before .before in
+    let at-unedited = at-if3 .before .before .before .before .before .before .before .before .before in
+    let at-if2 = at-unedited .before .before .before .before .before in
+    let at-readable = at-if2 .before in
+    let at-if1 = at-readable .before in
+    let at-enough = at-if1 .before in
+    let a = at-enough .before .before .before .before .before .before .before .before .before .before .before .before .before .args in
+    let room = sym (at-enough .enough .ensures) ∙ not-false _ (at-if1 .if1 .left) in
+    let reads = sym (at-readable .readable .ensures) ∙ not-false _ (at-if2 .if2 .left) in
+    let same = at-unedited .unedited .ensures in
+    let wrote = at-write .write-rdef-canonical .ensures in
+    let long = enough-long _ _ _ _ _ room in
+    let is = the-output _ (length (a .out .now)) _ (length (a .scratch .now)) _ (long .scratch-long) room reads (sym (same .0) ∙ at-if3 .if3 .left) in (
+      record {
+        answer = c .written-payload .ensures ∙ ap writtenAnswer (wrote .0 .answer) ∙ sym (written-answer _) ∙ ap payloadAnswer (sym is);
+        out = wrote .0 .out ∙ sym (written-output _ (a .out .now)) ∙ ap (λ (o : Outcome Part). payloadOutput o (a .out .now)) (sym is);
+      },
+      (same .1 .0, (same .1 .1 .0, (same .1 .1 .1 .0, (same .1 .1 .1 .1, ap length (wrote .1) ∙ length-replicate (length (a .scratch .now)) 0)))),
+    )
 
 pub find-payload-spec : {M : Type 1} → statement M
 find-payload-spec =
     tie.close
     (tie.spec
-    enough-requires
-    refuse-requires
-    same-length
+    (λ c κs. search needs) (λ c κs. search needs) (λ c. search needs)
     returns
-    readable-requires
-    refuse-requires-2
-    same-length-2
+    (λ c κs. search needs) (λ c κs. search needs) (λ c. search needs)
     returns-2
     unedited-requires
-    same-length-3
-    same-length-4
-    same-length-5
-    same-length-6
+    (λ c. search needs) (λ c. search needs) (λ c. search needs) (λ c. search needs)
     returns-3
-    write-rdef-canonical-requires
-    written-payload-requires
-    same-length-7
-    same-length-8
-    same-length-9
-    same-length-10
-    same-length-11
-    same-length-12
+    (λ c κs. search needs) (λ c κs. search needs)
+    (λ c. search needs) (λ c. search needs) (λ c. search needs) (λ c. search needs) (λ c. search needs) (λ c. search needs)
     returns-4)

@@ -4,102 +4,70 @@ use Prim.Native.Nat.{ℕ, _<_}
 use native.Mathlib.Omega.{arith}
 use lib.ListN.{length, getD}
 use Rattle.readable.proofs.ReadableTables.{readable-holds}
-use Rattle.reader.specs.Parsed.{readInto}
-use Rattle.reader.proofs.Held.{held as held-of, zeroed}
-use Rattle.writer.proofs.TablesSized.{tables-sized}
+use Rattle.read.specs.Parsed.{readInto}
+use Rattle.read.proofs.Held.{held as held-of, zeroed}
+use Rattle.write.proofs.TablesSized.{tables-sized}
 use Rattle.payload.proofs.Comparing.{full-room, found-readable, unread-edited, read-compared}
 use borrow.Author.Needs.{needs}
 use Rattle.payload.proofs.unedited.Statement.{statement}
 use Rattle.payload.proofs.unedited.Tie as tie
 
-parse-rdef-requires : tie.Need-parse-rdef-requires
-parse-rdef-requires c κs = search needs
-
-enum-told : tie.Need-enum-told
-enum-told c = search needs
-
-enum-known-parsed : tie.Need-enum-known-parsed
-enum-known-parsed c = search needs
-
 same-reflection-requires : tie.Need-same-reflection-requires
 same-reflection-requires c κs =
-    let parsed-at = c .before .before .before .before .before .parsed in
-    let parse-rdef-at = c .before .before .before .before .before .before .before .before .before .before .before .before .before .before .before .parse-rdef in
-    let shared-slice-known-at = c .before .before .before .before .before .before .before .before .before .before .before .before .before .before .before .before .before .before .before .before .before .before .before .before .before .before .before .before .before .shared-slice-known in
-    let args-at = c .before .before .before .before .before .before .before .before .before .before .before .before .before .before .before .before .before .before .before .before .before .before .before .before .before .before .before .before .before .before .args in
-    let pre-at = c .before .before .before .before .before .before .before .before .before .before .before .before .before .before .before .before .before .before .before .before .before .before .before .before .before .before .before .before .before .before .pre in
-    let holds = readable-holds (args-at .chunk .now) (args-at .edits .now) (args-at .def) (args-at .bindings .now) (args-at .buffers .now) (args-at .variables .now) (args-at .types .now) (pre-at .0) in
-    let outcome = readInto (args-at .chunk .now) (args-at .found-bindings .now) (args-at .found-buffers .now) (args-at .found-variables .now) (args-at .found-types .now) in
-    let found = held-of (length (args-at .found-bindings .now)) (length (args-at .found-buffers .now)) (length (args-at .found-variables .now)) (length (args-at .found-types .now)) outcome (parsed-at .given .0 .0) (sym (parsed-at .given .1) ∙ parse-rdef-at .ensures .0) (parse-rdef-at .ensures .1 .0) (parse-rdef-at .ensures .1 .1 .0) (parse-rdef-at .ensures .1 .1 .1 .0) (parse-rdef-at .ensures .1 .1 .1 .1) in
-    let bytes : (i : ℕ) → getD (args-at .chunk .now) i 0 < 256 = λ i. omega (arith, shared-slice-known-at .given i) in
-    (tables-sized (found-readable (args-at .chunk .now) bytes (args-at .found-bindings .now) (args-at .found-buffers .now) (args-at .found-variables .now) (args-at .found-types .now) found), tables-sized holds)
-
-same-length : tie.Need-same-length
-same-length c = search needs
-
-same-length-2 : tie.Need-same-length-2
-same-length-2 c = search needs
-
-same-length-3 : tie.Need-same-length-3
-same-length-3 c = search needs
-
-same-length-4 : tie.Need-same-length-4
-same-length-4 c = search needs
+    let at-read = c .before .before .before .before .before in
+    let at-parse = at-read .before .before .before .before .before .before .before .before .before .before in
+    let at-chunk = at-parse .before .before .before .before .before .before .before .before .before .before .before .before .before .before in
+    let start = at-chunk .before in
+    let a = start .args in
+    let parsed = at-parse .parse-rdef .ensures in
+    let found =
+    held-of _ _ _ _ (readInto (a .chunk .now) (a .found-bindings .now) (a .found-buffers .now) (a .found-variables .now) (a .found-types .now)) _
+    (sym (at-read .parsed .given .1) ∙ parsed .answer) (parsed .bindings) (parsed .buffers) (parsed .variables) (parsed .types) in
+    let bytes : (i : ℕ) → getD (a .chunk .now) i 0 < 256 = λ i. omega (arith, at-chunk .shared-slice-known .given i) in
+    (tables-sized (found-readable _ bytes _ _ _ _ found), tables-sized (readable-holds _ _ _ _ _ _ _ (start .pre .0)))
 
 returns : tie.Need-returns
 returns c =
-    let enum-told-at = c .enum-told in
-    let parse-rdef-at = c .before .before .before .before .before .before .before .before .before .before .parse-rdef in
-    let args-at = c .before .before .before .before .before .before .before .before .before .before .before .before .before .before .before .before .before .before .before .before .before .before .before .before .before .args in
-    let pre-at = c .before .before .before .before .before .before .before .before .before .before .before .before .before .before .before .before .before .before .before .before .before .before .before .before .before .pre in
-    let holds = readable-holds (args-at .chunk .now) (args-at .edits .now) (args-at .def) (args-at .bindings .now) (args-at .buffers .now) (args-at .variables .now) (args-at .types .now) (pre-at .0) in
-    let whole = full-room (length (args-at .found-bindings .now)) (length (args-at .found-buffers .now)) (length (args-at .found-variables .now)) (length (args-at .found-types .now)) (pre-at .1 .0) (pre-at .1 .1 .0) (pre-at .1 .1 .1 .0) (pre-at .1 .1 .1 .1) in
-    let outcome = readInto (args-at .chunk .now) (args-at .found-bindings .now) (args-at .found-buffers .now) (args-at .found-variables .now) (args-at .found-types .now) in
-    let unread = zeroed (length (args-at .found-bindings .now)) (length (args-at .found-buffers .now)) (length (args-at .found-variables .now)) (length (args-at .found-types .now)) outcome (enum-told-at .given .0 .0) (sym (enum-told-at .given .1) ∙ parse-rdef-at .ensures .0) (parse-rdef-at .ensures .1 .0) (parse-rdef-at .ensures .1 .1 .0) (parse-rdef-at .ensures .1 .1 .1 .0) (parse-rdef-at .ensures .1 .1 .1 .1) in
-    (unread-edited (args-at .chunk .now) (args-at .edits .now) (args-at .def) (args-at .bindings .now) (args-at .buffers .now) (args-at .variables .now) (args-at .types .now) holds (args-at .found-bindings .now) (args-at .found-buffers .now) (args-at .found-variables .now) (args-at .found-types .now) whole (enum-told-at .given .0 .0) (unread .is), (parse-rdef-at .kept .1 .0, (parse-rdef-at .kept .1 .1 .0, (parse-rdef-at .kept .1 .1 .1 .0, parse-rdef-at .kept .1 .1 .1 .1 .0))))
-
-same-length-5 : tie.Need-same-length-5
-same-length-5 c = search needs
-
-same-length-6 : tie.Need-same-length-6
-same-length-6 c = search needs
-
-same-length-7 : tie.Need-same-length-7
-same-length-7 c = search needs
-
-same-length-8 : tie.Need-same-length-8
-same-length-8 c = search needs
+    let at-parse = c .before .before .before .before .before .before .before .before .before .before in
+    let start = at-parse .before .before .before .before .before .before .before .before .before .before .before .before .before .before .before in
+    let a = start .args in
+    let parsed = at-parse .parse-rdef .ensures in
+    let kept = at-parse .parse-rdef .kept in
+    let long = start .pre .1 in
+    let whole = full-room _ _ _ _ (long .0) (long .1 .0) (long .1 .1 .0) (long .1 .1 .1) in
+    let unread =
+    zeroed _ _ _ _ (readInto (a .chunk .now) (a .found-bindings .now) (a .found-buffers .now) (a .found-variables .now) (a .found-types .now)) _
+    (sym (c .enum-told .given .1) ∙ parsed .answer) (parsed .bindings) (parsed .buffers) (parsed .variables) (parsed .types) in (
+      unread-edited _ _ _ _ _ _ _ (readable-holds _ _ _ _ _ _ _ (start .pre .0)) _ _ _ _ whole _ (unread .is),
+      (kept .1 .0, (kept .1 .1 .0, (kept .1 .1 .1 .0, kept .1 .1 .1 .1 .0))),
+    )
 
 returns-2 : tie.Need-returns-2
 returns-2 c =
-    let same-reflection-at = c .same-reflection in
-    let parsed-at = c .before .before .before .before .before .before .parsed in
-    let parse-rdef-at = c .before .before .before .before .before .before .before .before .before .before .before .before .before .before .before .before .parse-rdef in
-    let shared-slice-known-at = c .before .before .before .before .before .before .before .before .before .before .before .before .before .before .before .before .before .before .before .before .before .before .before .before .before .before .before .before .before .before .shared-slice-known in
-    let args-at = c .before .before .before .before .before .before .before .before .before .before .before .before .before .before .before .before .before .before .before .before .before .before .before .before .before .before .before .before .before .before .before .args in
-    let pre-at = c .before .before .before .before .before .before .before .before .before .before .before .before .before .before .before .before .before .before .before .before .before .before .before .before .before .before .before .before .before .before .before .pre in
-    let holds = readable-holds (args-at .chunk .now) (args-at .edits .now) (args-at .def) (args-at .bindings .now) (args-at .buffers .now) (args-at .variables .now) (args-at .types .now) (pre-at .0) in
-    let whole = full-room (length (args-at .found-bindings .now)) (length (args-at .found-buffers .now)) (length (args-at .found-variables .now)) (length (args-at .found-types .now)) (pre-at .1 .0) (pre-at .1 .1 .0) (pre-at .1 .1 .1 .0) (pre-at .1 .1 .1 .1) in
-    let outcome = readInto (args-at .chunk .now) (args-at .found-bindings .now) (args-at .found-buffers .now) (args-at .found-variables .now) (args-at .found-types .now) in
-    let found = held-of (length (args-at .found-bindings .now)) (length (args-at .found-buffers .now)) (length (args-at .found-variables .now)) (length (args-at .found-types .now)) outcome (parsed-at .given .0 .0) (sym (parsed-at .given .1) ∙ parse-rdef-at .ensures .0) (parse-rdef-at .ensures .1 .0) (parse-rdef-at .ensures .1 .1 .0) (parse-rdef-at .ensures .1 .1 .1 .0) (parse-rdef-at .ensures .1 .1 .1 .1) in
-    let bytes : (i : ℕ) → getD (args-at .chunk .now) i 0 < 256 = λ i. omega (arith, shared-slice-known-at .given i) in
-    (same-reflection-at .ensures ∙ read-compared (args-at .chunk .now) (args-at .edits .now) (args-at .def) (args-at .bindings .now) (args-at .buffers .now) (args-at .variables .now) (args-at .types .now) holds (args-at .found-bindings .now) (args-at .found-buffers .now) (args-at .found-variables .now) (args-at .found-types .now) whole bytes found, (parse-rdef-at .kept .1 .0, (parse-rdef-at .kept .1 .1 .0, (parse-rdef-at .kept .1 .1 .1 .0, parse-rdef-at .kept .1 .1 .1 .1 .0))))
+    let at-read = c .before .before .before .before .before .before in
+    let at-parse = at-read .before .before .before .before .before .before .before .before .before .before in
+    let at-chunk = at-parse .before .before .before .before .before .before .before .before .before .before .before .before .before .before in
+    let start = at-chunk .before in
+    let a = start .args in
+    let parsed = at-parse .parse-rdef .ensures in
+    let kept = at-parse .parse-rdef .kept in
+    let long = start .pre .1 in
+    let whole = full-room _ _ _ _ (long .0) (long .1 .0) (long .1 .1 .0) (long .1 .1 .1) in
+    let found =
+    held-of _ _ _ _ (readInto (a .chunk .now) (a .found-bindings .now) (a .found-buffers .now) (a .found-variables .now) (a .found-types .now)) _
+    (sym (at-read .parsed .given .1) ∙ parsed .answer) (parsed .bindings) (parsed .buffers) (parsed .variables) (parsed .types) in
+    let bytes : (i : ℕ) → getD (a .chunk .now) i 0 < 256 = λ i. omega (arith, at-chunk .shared-slice-known .given i) in (
+      c .same-reflection .ensures ∙ read-compared _ _ _ _ _ _ _ (readable-holds _ _ _ _ _ _ _ (start .pre .0)) _ _ _ _ whole bytes found,
+      (kept .1 .0, (kept .1 .1 .0, (kept .1 .1 .1 .0, kept .1 .1 .1 .1 .0))),
+    )
 
 pub unedited-spec : {M : Type 1} → statement M
 unedited-spec =
     tie.close
     (tie.spec
-    parse-rdef-requires
-    enum-told
-    enum-known-parsed
+    (λ c κs. search needs) (λ c. search needs) (λ c. search needs)
     same-reflection-requires
-    same-length
-    same-length-2
-    same-length-3
-    same-length-4
+    (λ c. search needs) (λ c. search needs) (λ c. search needs) (λ c. search needs)
     returns
-    same-length-5
-    same-length-6
-    same-length-7
-    same-length-8
+    (λ c. search needs) (λ c. search needs) (λ c. search needs) (λ c. search needs)
     returns-2)

@@ -5,12 +5,6 @@ use borrow.Author.Needs.{needs}
 use Rattle.payload.proofs.written_payload.Statement.{statement}
 use Rattle.payload.proofs.written_payload.Tie as tie
 
-enum-known-written : tie.Need-enum-known-written
-enum-known-written c = search needs
-
-enum-known-written-2 : tie.Need-enum-known-written-2
-enum-known-written-2 c = search needs
-
 returns : tie.Need-returns
 unfolding writtenAnswer
 returns c =
@@ -25,4 +19,4 @@ returns-2 c =
 
 pub written-payload-spec : {M : Type 1} → statement M
 written-payload-spec =
-    tie.close (tie.spec enum-known-written enum-known-written-2 returns returns-2)
+    tie.close (tie.spec (λ c. search needs) (λ c. search needs) returns returns-2)

@@ -8,7 +8,8 @@ use native.Mathlib.Omega.{arith}
 use borrow.Author.Needs.{needs}
 use lib.ListN.{length, drop}
 use Rattle.text.specs.Strings.{untilNul}
-use Rattle.text.proofs.Strings.{until-nul-end, until-nul-here, until-nul-more, cstring-no-nul, cstring-ends, AsciiFrom, part-ascii, flag-fallen, flag-kept}
+use Rattle.text.proofs.Strings.{until-nul-end, until-nul-here, until-nul-more, cstring-no-nul, cstring-ends, AsciiFrom, part-ascii}
+use Rattle.text.proofs.Strings.{flag-fallen, flag-kept}
 use Rattle.text.proofs.cstring_at.Statement.{statement}
 use Rattle.text.proofs.cstring_at.Tie as tie
 
@@ -21,84 +22,52 @@ abbrev μ-loop : tie.MeasureT-loop
 
 loop-holds : tie.Need-loop-holds Inv-loop μ-loop
 loop-holds c =
-    let at = c .before .args .at in
-    let none : 0 ≡ at - at = omega arith in
-    (omega arith, ap (untilNul (drop at (c .before .args .s .now)) at) none, λ e k h g. absurd (omega arith))
-
-shared-slice-read-b : tie.Need-shared-slice-read-b Inv-loop μ-loop
-shared-slice-read-b c = search needs
-
-sub-t11 : tie.Need-sub-t11 Inv-loop μ-loop
-sub-t11 c = search needs
+    let start = c .before in
+    let at = start .args .at in let none : 0 ≡ at - at = omega arith in
+    (omega arith, ap (untilNul (drop at (start .args .s .now)) at) none, λ e k h g. absurd (omega arith))
 
 returns : tie.Need-returns Inv-loop μ-loop
 returns c =
-    let s = c .before .before .before .before .before .before .args .s .now in
-    let at = c .before .before .before .before .before .before .args .at in
-    let turn = c .before .before .before .before .loop in
-    let i = turn .i in
-    let ends = turn .inv .1 ∙ until-nul-here s at i (i - at) (c .before .before .before .loop-test .taken) (c .before .if1 .taken) in
+    let at-if1 = c .before in let at-loop-test = at-if1 .before .before in let at-loop = at-loop-test .before in
+    let start = at-loop .before .before in
+    let s = start .args .s .now in let at = start .args .at in let turn = at-loop .loop in let i = turn .i in
+    let ends = turn .inv .1 ∙ until-nul-here s at i (i - at) (at-loop-test .loop-test .taken) (at-if1 .if1 .taken) in
     let formed = part-ascii s at i (turn .inv .0) (omega arith) (turn .inv .2 (c .if2 .taken)) in
     (sym (cstring-ends s at (i - at) true ends formed), omega arith)
 
-sub-utf8-ok : tie.Need-sub-utf8-ok Inv-loop μ-loop
-sub-utf8-ok c = search needs
-
-part-utf8-ok-start : tie.Need-part-utf8-ok-start Inv-loop μ-loop
-part-utf8-ok-start c = search needs
-
-part-utf8-ok-end : tie.Need-part-utf8-ok-end Inv-loop μ-loop
-part-utf8-ok-end c = search needs
-
-utf8-ok-requires : tie.Need-utf8-ok-requires Inv-loop μ-loop
-utf8-ok-requires c κs = search needs
-
-sub-t17 : tie.Need-sub-t17 Inv-loop μ-loop
-sub-t17 c = search needs
-
 returns-2 : tie.Need-returns-2 Inv-loop μ-loop
 returns-2 c =
-    let s = c .before .before .before .before .before .before .before .before .before .args .s .now in
-    let at = c .before .before .before .before .before .before .before .before .before .args .at in
-    let turn = c .before .before .before .before .before .before .before .loop in
-    let i = turn .i in
-    let ends = turn .inv .1 ∙ until-nul-here s at i (i - at) (c .before .before .before .before .before .before .loop-test .taken) (c .before .before .before .before .if1 .taken) in
-    (sym (cstring-ends s at (i - at) true ends (sym (c .before .utf8-ok .ensures) ∙ c .if3 .taken)), omega arith)
+    let at-utf8-ok = c .before in let at-if1 = at-utf8-ok .before .before .before in let at-loop-test = at-if1 .before .before in
+    let at-loop = at-loop-test .before in let start = at-loop .before .before in
+    let s = start .args .s .now in let at = start .args .at in let turn = at-loop .loop in let i = turn .i in
+    let ends = turn .inv .1 ∙ until-nul-here s at i (i - at) (at-loop-test .loop-test .taken) (at-if1 .if1 .taken) in
+    (sym (cstring-ends s at (i - at) true ends (sym (at-utf8-ok .utf8-ok .ensures) ∙ c .if3 .taken)), omega arith)
 
 returns-3 : tie.Need-returns-3 Inv-loop μ-loop
 returns-3 c =
-    let s = c .before .before .before .before .before .before .before .before .before .args .s .now in
-    let at = c .before .before .before .before .before .before .before .before .before .args .at in
-    let turn = c .before .before .before .before .before .before .before .loop in
-    let i = turn .i in
-    let ends = turn .inv .1 ∙ until-nul-here s at i (i - at) (c .before .before .before .before .before .before .loop-test .taken) (c .before .before .before .before .if1 .taken) in
-    (sym (cstring-ends s at (i - at) false ends (sym (c .before .utf8-ok .ensures) ∙ c .if3 .left)), tt)
-
-add-i : tie.Need-add-i Inv-loop μ-loop
-add-i c = search needs
-
-loop-less : tie.Need-loop-less Inv-loop μ-loop
-loop-less c = search needs
+    let at-utf8-ok = c .before in let at-if1 = at-utf8-ok .before .before .before in let at-loop-test = at-if1 .before .before in
+    let at-loop = at-loop-test .before in let start = at-loop .before .before in
+    let s = start .args .s .now in let at = start .args .at in let turn = at-loop .loop in let i = turn .i in
+    let ends = turn .inv .1 ∙ until-nul-here s at i (i - at) (at-loop-test .loop-test .taken) (at-if1 .if1 .taken) in
+    (sym (cstring-ends s at (i - at) false ends (sym (at-utf8-ok .utf8-ok .ensures) ∙ c .if3 .left)), tt)
 
 loop-again : tie.Need-loop-again Inv-loop μ-loop
 loop-again c =
-    let s = c .before .before .before .before .before .before .args .s .now in
-    let at = c .before .before .before .before .before .before .args .at in
-    let turn = c .before .before .before .before .loop in
-    let i = turn .i in
+    let at-if1 = c .before in let at-loop-test = at-if1 .before .before in let at-loop = at-loop-test .before in
+    let start = at-loop .before .before in
+    let s = start .args .s .now in let at = start .args .at in let turn = at-loop .loop in let i = turn .i in
     let longer : i - at + 1 ≡ i + 1 - at = omega arith in (
       omega arith,
-      turn .inv .1 ∙ until-nul-more s at i (i - at) (c .before .before .before .loop-test .taken) (c .before .if1 .left)
-          ∙ ap (untilNul (drop (i + 1) s) at) longer,
-      ⊎-elim (λ w. flag-fallen s at i (c .if4 .ascii) (w .1))
-          (λ w. flag-kept s at i (c .if4 .ascii) (turn .ascii) (w .1) (turn .inv .2) (w .0 .left)) (c .if4 .came),
+      turn .inv .1 ∙ until-nul-more s at i (i - at)
+          (at-loop-test .loop-test .taken) (at-if1 .if1 .left) ∙ ap (untilNul (drop (i + 1) s) at) longer,
+      ⊎-elim (λ w. flag-fallen s at i (c .if4 .ascii) (w .1)) (λ w. flag-kept s at i (c .if4 .ascii) (turn .ascii) (w .1) (turn .inv .2) (w .0 .left))
+          (c .if4 .came),
     )
 
 returns-4 : tie.Need-returns-4 Inv-loop μ-loop
 returns-4 c =
-    let s = c .before .before .before .args .s .now in
-    let at = c .before .before .before .args .at in
-    let turn = c .before .loop in
+    let at-loop = c .before in let start = at-loop .before .before in
+    let s = start .args .s .now in let at = start .args .at in let turn = at-loop .loop in
     (sym (cstring-no-nul s at (turn .inv .1 ∙ until-nul-end s at (turn .i) (turn .i - at) (c .loop-test .left))), tt)
 
 pub cstring-at-spec : {M : Type 1} → statement M
@@ -108,17 +77,17 @@ cstring-at-spec =
     Inv-loop
     μ-loop
     loop-holds
-    shared-slice-read-b
-    sub-t11
+    (λ c. search needs)
+    (λ c. search needs)
     returns
-    sub-utf8-ok
-    part-utf8-ok-start
-    part-utf8-ok-end
-    utf8-ok-requires
-    sub-t17
+    (λ c. search needs)
+    (λ c. search needs)
+    (λ c. search needs)
+    (λ c κs. search needs)
+    (λ c. search needs)
     returns-2
     returns-3
-    add-i
-    loop-less
+    (λ c. search needs)
+    (λ c. search needs)
     loop-again
     returns-4)

@@ -18,21 +18,6 @@ Inv-loop a b same₀ i₀ same i = (i ≤ length a) × (sameBytes a b ≡ (same 
 abbrev μ-loop : tie.MeasureT-loop
 μ-loop a b same₀ i₀ same i = length a - i
 
-loop-holds : tie.Need-loop-holds Inv-loop μ-loop
-loop-holds c = search needs
-
-shared-slice-read-same : tie.Need-shared-slice-read-same Inv-loop μ-loop
-shared-slice-read-same c = search needs
-
-shared-slice-read-same-2 : tie.Need-shared-slice-read-same-2 Inv-loop μ-loop
-shared-slice-read-same-2 c = search needs
-
-add-i : tie.Need-add-i Inv-loop μ-loop
-add-i c = search needs
-
-loop-less : tie.Need-loop-less Inv-loop μ-loop
-loop-less c = search needs
-
 loop-again : tie.Need-loop-again Inv-loop μ-loop
 loop-again c =
     let start = c .before .before .before .before in
@@ -49,7 +34,8 @@ returns : tie.Need-returns Inv-loop μ-loop
 returns c =
     let start = c .before .before in
     let turn = c .before .loop in
-    sym (turn .inv .1 ∙ ap (λ t. turn .same && t) (same-bytes-past (start .args .a .now) (start .args .b .now) (turn .i) (omega arith) (omega arith)) ∙ and-always (turn .same))
+    sym (turn .inv .1 ∙ ap (λ t. turn .same && t) (same-bytes-past (start .args .a .now) (start .args .b .now) (turn .i) (omega arith) (omega arith))
+    ∙ and-always (turn .same))
 
 pub same-bytes-spec : {M : Type 1} → statement M
 same-bytes-spec =
@@ -57,10 +43,10 @@ same-bytes-spec =
     (tie.spec
     Inv-loop
     μ-loop
-    loop-holds
-    shared-slice-read-same
-    shared-slice-read-same-2
-    add-i
-    loop-less
+    (λ c. search needs)
+    (λ c. search needs)
+    (λ c. search needs)
+    (λ c. search needs)
+    (λ c. search needs)
     loop-again
     returns)

@@ -8,11 +8,5 @@ use Rattle.text.proofs.same_text.Tie as tie
 returns : tie.Need-returns
 returns c = sym (other-length (c .before .before .before .args .a .now) (c .before .before .before .args .b .now) (c .if1 .taken))
 
-same-bytes-requires : tie.Need-same-bytes-requires
-same-bytes-requires c κs = search needs
-
-returns-2 : tie.Need-returns-2
-returns-2 c = search needs
-
 pub same-text-spec : {M : Type 1} → statement M
-same-text-spec = tie.close (tie.spec returns same-bytes-requires returns-2)
+same-text-spec = tie.close (tie.spec returns (λ c κs. search needs) (λ c. search needs))

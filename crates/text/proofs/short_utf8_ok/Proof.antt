@@ -20,42 +20,32 @@ abbrev μ-loop : tie.MeasureT-loop
 loop-holds : tie.Need-loop-holds Inv-loop μ-loop
 loop-holds c = (search needs, refl)
 
-sequence-at-requires : tie.Need-sequence-at-requires Inv-loop μ-loop
-sequence-at-requires c κs = search needs
-
-enum-known-sequence : tie.Need-enum-known-sequence Inv-loop μ-loop
-enum-known-sequence c = search needs
-
 loop-less : tie.Need-loop-less Inv-loop μ-loop
 loop-less c =
-    let s = c .before .before .before .before .before .before .before .args .s .now in
-    let ends = subst (SequenceEnd s (c .before .before .before .before .before .loop .i)) (c .before .sequence .given .1) (c .before .before .before .sequence-at .ensures) in
-    omega arith
+    let at-sequence = c .before in let at-sequence-at = at-sequence .before .before in let at-loop = at-sequence-at .before .before in
+    let start = at-loop .before .before in
+    let s = start .args .s .now in let ends = subst (SequenceEnd s (at-loop .loop .i)) (at-sequence .sequence .given .1)
+    (at-sequence-at .sequence-at .ensures) in omega arith
 
 loop-again : tie.Need-loop-again Inv-loop μ-loop
 loop-again c =
-    let s = c .before .before .before .before .before .before .before .args .s .now in
-    let turn = c .before .before .before .before .before .loop in
-    let ends = subst (SequenceEnd s (turn .i)) (c .before .sequence .given .1) (c .before .before .before .sequence-at .ensures) in
-    (ends .1, ends .2 ∙ turn .inv .1)
-
-enum-told : tie.Need-enum-told Inv-loop μ-loop
-enum-told c = search needs
+    let at-sequence = c .before in let at-sequence-at = at-sequence .before .before in let at-loop = at-sequence-at .before .before in
+    let start = at-loop .before .before in
+    let s = start .args .s .now in let turn = at-loop .loop in let ends = subst (SequenceEnd s (turn .i)) (at-sequence .sequence .given .1)
+    (at-sequence-at .sequence-at .ensures) in (ends .1, ends .2 ∙ turn .inv .1)
 
 returns : tie.Need-returns Inv-loop μ-loop
 unfolding wellFormed
 returns c =
-    let s = c .before .before .before .before .before .before .args .s .now in
-    let turn = c .before .before .before .before .loop in
-    let none = subst (SequenceEnd s (turn .i)) (c .enum-told .given .1) (c .before .before .sequence-at .ensures) in
-    sym (ap whole (sym (turn .inv .1)) ∙ none)
+    let at-sequence-at = c .before .before in let at-loop = at-sequence-at .before .before in let start = at-loop .before .before in
+    let s = start .args .s .now in let turn = at-loop .loop in let none = subst (SequenceEnd s (turn .i)) (c .enum-told .given .1)
+    (at-sequence-at .sequence-at .ensures) in sym (ap whole (sym (turn .inv .1)) ∙ none)
 
 returns-2 : tie.Need-returns-2 Inv-loop μ-loop
 unfolding wellFormed
 returns-2 c =
-    let s = c .before .before .before .args .s .now in
-    let turn = c .before .loop in
-    ap whole (sym (run-end (Left.columns []) s (turn .i) (omega arith)) ∙ turn .inv .1)
+    let at-loop = c .before in let start = at-loop .before .before in
+    let s = start .args .s .now in let turn = at-loop .loop in ap whole (sym (run-end (Left.columns []) s (turn .i) (omega arith)) ∙ turn .inv .1)
 
 pub short-utf8-ok-spec : {M : Type 1} → statement M
 short-utf8-ok-spec =
@@ -64,10 +54,10 @@ short-utf8-ok-spec =
     Inv-loop
     μ-loop
     loop-holds
-    sequence-at-requires
-    enum-known-sequence
+    (λ c κs. search needs)
+    (λ c. search needs)
     loop-less
     loop-again
-    enum-told
+    (λ c. search needs)
     returns
     returns-2)

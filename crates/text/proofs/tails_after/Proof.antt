@@ -19,22 +19,14 @@ returns-3 c = simp (le-ltb _ _ (c .before .before .if1 .left), le-ltb _ _ (c .be
 returns-4 : tie.Need-returns-4
 unfolding tailsAfter
 returns-4 c =
-    simp (
-      le-ltb _ _ (c .before .before .before .if1 .left),
-      le-ltb _ _ (c .before .before .if2 .left),
-      le-ltb _ _ (c .before .if3 .left),
-      lt-ltb _ _ (c .if4 .taken),
-    )
+    let at-if3 = c .before in let at-if2 = at-if3 .before in let at-if1 = at-if2 .before in
+    simp (le-ltb _ _ (at-if1 .if1 .left), le-ltb _ _ (at-if2 .if2 .left), le-ltb _ _ (at-if3 .if3 .left), lt-ltb _ _ (c .if4 .taken))
 
 returns-5 : tie.Need-returns-5
 unfolding tailsAfter
 returns-5 c =
-    simp (
-      le-ltb _ _ (c .before .before .before .if1 .left),
-      le-ltb _ _ (c .before .before .if2 .left),
-      le-ltb _ _ (c .before .if3 .left),
-      le-ltb _ _ (c .if4 .left),
-    )
+    let at-if3 = c .before in let at-if2 = at-if3 .before in let at-if1 = at-if2 .before in
+    simp (le-ltb _ _ (at-if1 .if1 .left), le-ltb _ _ (at-if2 .if2 .left), le-ltb _ _ (at-if3 .if3 .left), le-ltb _ _ (c .if4 .left))
 
 pub tails-after-spec : {M : Type 1} → statement M
 tails-after-spec = tie.close (tie.spec returns returns-2 returns-3 returns-4 returns-5)

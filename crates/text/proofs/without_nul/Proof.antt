@@ -18,30 +18,18 @@ Inv-loop s without₀ i₀ without i = withoutNul s ≡ (without && withoutNul (
 abbrev μ-loop : tie.MeasureT-loop
 μ-loop s without₀ i₀ without i = length s - i
 
-loop-holds : tie.Need-loop-holds Inv-loop μ-loop
-loop-holds c = search needs
-
-shared-slice-read-without : tie.Need-shared-slice-read-without Inv-loop μ-loop
-shared-slice-read-without c = search needs
-
-add-i : tie.Need-add-i Inv-loop μ-loop
-add-i c = search needs
-
-loop-less : tie.Need-loop-less Inv-loop μ-loop
-loop-less c = search needs
-
 loop-again : tie.Need-loop-again Inv-loop μ-loop
 loop-again c =
-    let s = c .before .before .before .args .s .now in
-    let turn = c .before .before .loop in
-    let i = turn .i in
-    turn .inv ∙ ap (λ t. turn .without && t) (without-nul-here s i (omega arith))
-    ∙ and-assoc (turn .without) (not (eqb (getD s i 0) 0)) (withoutNul (drop (i + 1) s))
+    let at-loop = c .before .before in let start = at-loop .before in
+    let s = start .args .s .now in let turn = at-loop .loop in let i = turn .i in
+    turn .inv ∙ ap (λ t. turn .without && t) (without-nul-here s i (omega arith)) ∙ and-assoc (turn .without) (not (eqb (getD s i 0) 0))
+    (withoutNul (drop (i + 1) s))
 
 returns : tie.Need-returns Inv-loop μ-loop
 returns c =
-    let turn = c .before .loop in
-    sym (turn .inv ∙ ap (λ t. turn .without && t) (without-nul-past (c .before .before .args .s .now) (turn .i) (omega arith)) ∙ and-always (turn .without))
+    let at-loop = c .before in let start = at-loop .before in
+    let turn = at-loop .loop in sym (turn .inv ∙ ap (λ t. turn .without && t) (without-nul-past (start .args .s .now) (turn .i) (omega arith))
+    ∙ and-always (turn .without))
 
 pub without-nul-spec : {M : Type 1} → statement M
 without-nul-spec =
@@ -49,9 +37,9 @@ without-nul-spec =
     (tie.spec
     Inv-loop
     μ-loop
-    loop-holds
-    shared-slice-read-without
-    add-i
-    loop-less
+    (λ c. search needs)
+    (λ c. search needs)
+    (λ c. search needs)
+    (λ c. search needs)
     loop-again
     returns)

@@ -23,34 +23,26 @@ loop-holds c =
     let e : a .at - a .at ≡ 0 = omega arith in
     (omega arith, (omega arith, (refl, sym (splice-nil (a .words .now) (a .at)) ∙ ap (λ (k : ℕ). splice (a .words .now) (a .at) (replicate k 0)) (sym e))))
 
-mul-words : tie.Need-mul-words Inv-loop μ-loop
-mul-words c = search needs
-
-slice-write-words : tie.Need-slice-write-words Inv-loop μ-loop
-slice-write-words c = omega arith
-
-add-i : tie.Need-add-i Inv-loop μ-loop
-add-i c = omega arith
-
-loop-less : tie.Need-loop-less Inv-loop μ-loop
-loop-less c = omega arith
-
 loop-again : tie.Need-loop-again Inv-loop μ-loop
 loop-again c =
-    let l = c .before .loop in
-    let a = c .before .before .args in
-    (omega arith, (omega arith, (length-set (l .words) (l .i) 0 ∙ l .inv .1 .1 .0, splice-replicate-more (a .words .now) (a .at) (l .i) 0 (l .inv .1 .1 .1) (l .inv .0))))
+    let at-loop = c .before in let start = at-loop .before in
+    let l = at-loop .loop in let a = start .args in (
+      omega arith,
+      (
+        omega arith,
+        (length-set (l .words) (l .i) 0 ∙ l .inv .1 .1 .0, splice-replicate-more (a .words .now) (a .at) (l .i) 0 (l .inv .1 .1 .1) (l .inv .0)),
+      ),
+    )
 
 same-length : tie.Need-same-length Inv-loop μ-loop
 same-length c = c .before .loop .inv .1 .1 .0
 
 returns : tie.Need-returns Inv-loop μ-loop
 returns c =
-    let l = c .before .loop in
-    let a = c .before .before .args in
-    let e : l .i - a .at ≡ length (a .words .now) - a .at = omega arith in
-    l .inv .1 .1 .1 ∙ ap (λ (k : ℕ). splice (a .words .now) (a .at) (replicate k 0)) e
-    ∙ splice-to-end (a .words .now) (a .at) _ (length-replicate _ 0)
+    let at-loop = c .before in let start = at-loop .before in
+    let l = at-loop .loop in let a = start .args in let e : l .i - a .at ≡ length (a .words .now) - a .at = omega arith in
+    l .inv .1 .1 .1 ∙ ap (λ (k : ℕ). splice (a .words .now) (a .at) (replicate k 0)) e ∙ splice-to-end (a .words .now) (a .at) _
+    (length-replicate _ 0)
 
 pub clear-from-spec : {M : Type 1} → statement M
 clear-from-spec =
@@ -59,10 +51,10 @@ clear-from-spec =
     Inv-loop
     μ-loop
     loop-holds
-    mul-words
-    slice-write-words
-    add-i
-    loop-less
+    (λ c. search needs)
+    (λ c. omega arith)
+    (λ c. omega arith)
+    (λ c. omega arith)
     loop-again
     same-length
     returns)

@@ -10,21 +10,6 @@ use Rattle.words.proofs.half_at.Tie as tie
 returns : tie.Need-returns
 returns c = (sym (half-past-end _ _ (c .if1 .taken)), omega arith)
 
-byte-at-requires : tie.Need-byte-at-requires
-byte-at-requires c κs = search needs
-
-add-byte-at : tie.Need-add-byte-at
-add-byte-at c = search needs
-
-byte-at-requires-2 : tie.Need-byte-at-requires-2
-byte-at-requires-2 c κs = search needs
-
-mul-result : tie.Need-mul-result
-mul-result c = search needs
-
-add-result : tie.Need-add-result
-add-result c = search needs
-
 returns-2 : tie.Need-returns-2
 unfolding halfAt
 returns-2 c = omega arith
@@ -34,9 +19,9 @@ half-at-spec =
     tie.close
     (tie.spec
     returns
-    byte-at-requires
-    add-byte-at
-    byte-at-requires-2
-    mul-result
-    add-result
+    (λ c κs. search needs)
+    (λ c. search needs)
+    (λ c κs. search needs)
+    (λ c. search needs)
+    (λ c. search needs)
     returns-2)

@@ -4,12 +4,9 @@ use Rattle.words.specs.Words.{highAt}
 use Rattle.words.proofs.high_at.Statement.{statement}
 use Rattle.words.proofs.high_at.Tie as tie
 
-word-at-requires : tie.Need-word-at-requires
-word-at-requires c κs = search needs
-
 returns : tie.Need-returns
 unfolding highAt
 returns c = cc
 
 pub high-at-spec : {M : Type 1} → statement M
-high-at-spec = tie.close (tie.spec word-at-requires returns)
+high-at-spec = tie.close (tie.spec (λ c κs. search needs) returns)

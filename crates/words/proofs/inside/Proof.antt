@@ -9,7 +9,9 @@ returns : tie.Need-returns
 returns c = place-in-room _ _ _ (c .if1 .taken)
 
 returns-2 : tie.Need-returns-2
-returns-2 c = sym (exceeds-outside (c .before .args .len) (c .before .args .at) (c .before .args .size) (omega arith))
+returns-2 c =
+    let start = c .before in
+    sym (exceeds-outside (start .args .len) (start .args .at) (start .args .size) (omega arith))
 
 pub inside-spec : {M : Type 1} → statement M
 inside-spec = tie.close (tie.spec returns returns-2)

@@ -4,12 +4,9 @@ use Rattle.words.specs.Words.{lowAt}
 use Rattle.words.proofs.low_at.Statement.{statement}
 use Rattle.words.proofs.low_at.Tie as tie
 
-word-at-requires : tie.Need-word-at-requires
-word-at-requires c κs = search needs
-
 returns : tie.Need-returns
 unfolding lowAt
 returns c = cc
 
 pub low-at-spec : {M : Type 1} → statement M
-low-at-spec = tie.close (tie.spec word-at-requires returns)
+low-at-spec = tie.close (tie.spec (λ c κs. search needs) returns)

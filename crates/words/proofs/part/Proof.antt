@@ -8,55 +8,40 @@ use Rattle.words.proofs.Parts.{inside-fits, part-inside, part-outside}
 use Rattle.words.proofs.part.Statement.{statement}
 use Rattle.words.proofs.part.Tie as tie
 
-inside-requires : tie.Need-inside-requires
-inside-requires c κs = search needs
-
 add-result : tie.Need-add-result
 add-result c =
-    let a = c .before .before .before .args in
-    omega (arith, inside-fits (length (a .s .now)) (a .place) (a .n) (sym (c .before .inside .ensures) ∙ c .if1 .taken))
-
-sub-result : tie.Need-sub-result
-sub-result c = search needs
-
-part-result-start : tie.Need-part-result-start
-part-result-start c = search needs
+    let at-inside = c .before in let start = at-inside .before .before in
+    let a = start .args in omega (arith, inside-fits (length (a .s .now)) (a .place) (a .n) (sym (at-inside .inside .ensures) ∙ c .if1 .taken))
 
 part-result-end : tie.Need-part-result-end
 part-result-end c =
-    let a = c .before .before .before .args in
-    omega (arith, inside-fits (length (a .s .now)) (a .place) (a .n) (sym (c .before .inside .ensures) ∙ c .if1 .taken))
+    let at-inside = c .before in let start = at-inside .before .before in
+    let a = start .args in omega (arith, inside-fits (length (a .s .now)) (a .place) (a .n) (sym (at-inside .inside .ensures) ∙ c .if1 .taken))
 
 returns : tie.Need-returns
 returns c =
-    let a = c .before .before .before .before .args in
-    simp (part-inside (a .s .now) (a .place) (a .n) (sym (c .before .before .inside .ensures) ∙ c .before .if1 .taken), add-sub-cancel-left)
-
-sub-result-2 : tie.Need-sub-result-2
-sub-result-2 c = search needs
-
-part-result-start-2 : tie.Need-part-result-start-2
-part-result-start-2 c = search needs
-
-part-result-end-2 : tie.Need-part-result-end-2
-part-result-end-2 c = search needs
+    let at-if1 = c .before in let at-inside = at-if1 .before in let start = at-inside .before .before in
+    let a = start .args in simp (
+      part-inside (a .s .now) (a .place) (a .n) (sym (at-inside .inside .ensures) ∙ at-if1 .if1 .taken),
+      add-sub-cancel-left,
+    )
 
 returns-2 : tie.Need-returns-2
 returns-2 c =
-    let a = c .before .before .before .before .args in
-    simp (part-outside (a .s .now) (a .place) (a .n) (sym (c .before .before .inside .ensures) ∙ c .before .if1 .left))
+    let at-if1 = c .before in let at-inside = at-if1 .before in let start = at-inside .before .before in
+    let a = start .args in simp (part-outside (a .s .now) (a .place) (a .n) (sym (at-inside .inside .ensures) ∙ at-if1 .if1 .left))
 
 pub part-spec : {M : Type 1} → statement M
 part-spec =
     tie.close
     (tie.spec
-    inside-requires
+    (λ c κs. search needs)
     add-result
-    sub-result
-    part-result-start
+    (λ c. search needs)
+    (λ c. search needs)
     part-result-end
     returns
-    sub-result-2
-    part-result-start-2
-    part-result-end-2
+    (λ c. search needs)
+    (λ c. search needs)
+    (λ c. search needs)
     returns-2)

@@ -16,52 +16,30 @@ Inv-loop table₀ at words n i₀ table i = (i ≤ n) × ((length table ≡ leng
 abbrev μ-loop : tie.MeasureT-loop
 μ-loop table₀ at words n i₀ table i = n - i
 
-sub-least : tie.Need-sub-least Inv-loop μ-loop
-sub-least c = search needs
-
-least-requires : tie.Need-least-requires Inv-loop μ-loop
-least-requires c κs = search needs
-
 loop-holds : tie.Need-loop-holds Inv-loop μ-loop
 loop-holds c =
     let a = c .before .before .before .before .args in
     (omega arith, (refl, sym (splice-nil (a .table .now) (a .at))))
 
-mul-table : tie.Need-mul-table Inv-loop μ-loop
-mul-table c = search needs
-
-shared-slice-read-table : tie.Need-shared-slice-read-table Inv-loop μ-loop
-shared-slice-read-table c = omega arith
-
-add-table : tie.Need-add-table Inv-loop μ-loop
-add-table c = omega arith
-
-mul-table-2 : tie.Need-mul-table-2 Inv-loop μ-loop
-mul-table-2 c = search needs
-
-slice-write-table : tie.Need-slice-write-table Inv-loop μ-loop
-slice-write-table c = omega arith
-
-add-i : tie.Need-add-i Inv-loop μ-loop
-add-i c = omega arith
-
-loop-less : tie.Need-loop-less Inv-loop μ-loop
-loop-less c = omega arith
-
 loop-again : tie.Need-loop-again Inv-loop μ-loop
 loop-again c =
-    let l = c .before .before .loop in
-    let a = c .before .before .before .before .before .before .before .args in
-    (omega arith, (length-set (l .table) _ _ ∙ l .inv .1 .0, splice-take-more (a .table .now) (a .at) (l .i) (a .words .now) 0 (l .inv .1 .1) (omega arith)))
+    let at-loop = c .before .before in let start = at-loop .before .before .before .before .before in
+    let l = at-loop .loop in let a = start .args in (
+      omega arith,
+      (
+        length-set (l .table) _ _ ∙ l .inv .1 .0,
+        splice-take-more (a .table .now) (a .at)
+            (l .i) (a .words .now) 0 (l .inv .1 .1) (omega arith),
+      ),
+    )
 
 same-length : tie.Need-same-length Inv-loop μ-loop
 same-length c = c .before .loop .inv .1 .0
 
 returns : tie.Need-returns Inv-loop μ-loop
 returns c =
-    let l = c .before .loop in
-    let a = c .before .before .before .before .before .before .args in
-    l .inv .1 .1 ∙ splice-enough (a .table .now) (a .at) (l .i) (a .words .now) (omega arith)
+    let at-loop = c .before in let start = at-loop .before .before .before .before .before in
+    let l = at-loop .loop in let a = start .args in l .inv .1 .1 ∙ splice-enough (a .table .now) (a .at) (l .i) (a .words .now) (omega arith)
 
 returns-2 : tie.Need-returns-2 Inv-loop μ-loop
 returns-2 c =
@@ -74,16 +52,16 @@ put-words-spec =
     (tie.spec
     Inv-loop
     μ-loop
-    sub-least
-    least-requires
+    (λ c. search needs)
+    (λ c κs. search needs)
     loop-holds
-    mul-table
-    shared-slice-read-table
-    add-table
-    mul-table-2
-    slice-write-table
-    add-i
-    loop-less
+    (λ c. search needs)
+    (λ c. omega arith)
+    (λ c. omega arith)
+    (λ c. search needs)
+    (λ c. omega arith)
+    (λ c. omega arith)
+    (λ c. omega arith)
     loop-again
     same-length
     returns

@@ -82,7 +82,7 @@ impl Generator {
         }
     }
 
-    /// Two evenings, with equal room.
+    /// Two reflections, with equal room.
     pub fn pair(&self, number: u64) -> [Case; 2] {
         let mut rng = Rng::new(self.seed, 2 * number + 1);
         loop {

@@ -1,25 +1,41 @@
--- `put_dimension` meets its contract: the name of the row that the table has at the number, or the name for no row.
+-- `put_dimension` meets its contract: the table's entry is the name that the definition gives the number.
+use mathlib.Core.Path.{refl, ap}
+use native.Mathlib.Omega.{arith}
 use borrow.Author.Needs.{needs}
+use lib.ListN.{length}
+use Rattle.codes.specs.Microsoft.{srvDimensions}
+use Rattle.text_output.specs.Ascii.{ascii}
+use Rattle.listing.specs.Names.{dimensionName}
+use Rattle.listing.proofs.Tables.{name-found, dimension-short}
 use Rattle.listing.proofs.code_names.put_dimension.Statement.{statement}
 use Rattle.listing.proofs.code_names.put_dimension.Tie as tie
 
-returns : tie.Need-returns
-returns c = rw (← c .before .before .before .before .before .before .before .from-u32 .ensures, c .before .before .before .before .before .enum-told .given .1) (c .before .before .put-text .ensures)
+put-text-requires : tie.Need-put-text-requires
+unfolding srvDimensions
+put-text-requires c κs =
+    let at-entry = c .before in
+    let at-least = at-entry .before in
+    let n = at-least .before .before .before .args .n in
+    let found = name-found dimensionName (ascii "NA") srvDimensions refl refl refl n (at-least .least .ensures) (at-entry .entry .ensures) in
+    (omega (arith, ap length found, dimension-short n), omega arith)
 
-returns-2 : tie.Need-returns-2
-returns-2 c = rw (← c .before .before .before .before .before .before .before .from-u32 .ensures, c .before .before .before .before .before .d .given .1) (c .before .before .put-dimension-name .ensures)
+returns : tie.Need-returns
+unfolding srvDimensions
+returns c =
+    let at-put = c .before .before in
+    let at-entry = at-put .before .before in
+    let at-least = at-entry .before in
+    let n = at-least .before .before .before .args .n in
+    let found = name-found dimensionName (ascii "NA") srvDimensions refl refl refl n (at-least .least .ensures) (at-entry .entry .ensures) in
+    rw found at (at-put .put-text .ensures)
 
 pub put-dimension-spec : {M : Type 1} → statement M
 put-dimension-spec =
     tie.close
     (tie.spec
-    (λ c κs. search needs)
-    (λ c. search needs)
-    (λ c. search needs)
     (λ c. search needs)
     (λ c κs. search needs)
-    (λ c. search needs)
-    returns
     (λ c κs. search needs)
+    put-text-requires
     (λ c. search needs)
-    returns-2)
+    returns)

@@ -4,17 +4,8 @@ use borrow.Author.Needs.{needs}
 use Rattle.listing.proofs.column.put_text.Statement.{statement}
 use Rattle.listing.proofs.column.put_text.Tie as tie
 
-put-byte-requires : tie.Need-put-byte-requires
-put-byte-requires c κs = search needs
-
-put-padded-requires : tie.Need-put-padded-requires
-put-padded-requires c κs = search needs
-
-same-length : tie.Need-same-length
-same-length c = search needs
-
 returns : tie.Need-returns
 returns c = put-then (c .before .before .before .before .before .before .put-byte .ensures) (c .before .before .put-padded .ensures .0)
 
 pub put-text-spec : {M : Type 1} → statement M
-put-text-spec = tie.close (tie.spec put-byte-requires put-padded-requires same-length returns)
+put-text-spec = tie.close (tie.spec (λ c κs. search needs) (λ c κs. search needs) (λ c. search needs) returns)

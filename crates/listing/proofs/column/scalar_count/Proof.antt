@@ -19,26 +19,16 @@ abbrev μ-loop : tie.MeasureT-loop
 loop-holds : tie.Need-loop-holds Inv-loop μ-loop
 loop-holds c = (omega arith, (omega arith, omega arith))
 
-shared-slice-read-continues : tie.Need-shared-slice-read-continues Inv-loop μ-loop
-shared-slice-read-continues c = omega arith
-
 continues-requires : tie.Need-continues-requires Inv-loop μ-loop
 continues-requires c κs = tt
 
-add-n : tie.Need-add-n Inv-loop μ-loop
-add-n c = omega arith
-
-add-i : tie.Need-add-i Inv-loop μ-loop
-add-i c = omega arith
-
-loop-less : tie.Need-loop-less Inv-loop μ-loop
-loop-less c = omega arith
-
 loop-again : tie.Need-loop-again Inv-loop μ-loop
 loop-again c =
-    let l = c .before .before .before .before .loop in
-    let s = c .before .before .before .before .before .before .args .bytes .now in
-    let more : l .i < length s = c .before .before .before .loop-test .taken in
+    let in-loop = c .before .before .before in
+    let at-loop = in-loop .before in
+    let l = at-loop .loop in
+    let s = at-loop .before .before .args .bytes .now in
+    let more : l .i < length s = in-loop .loop-test .taken in
     let test = c .before .continues .ensures in
     ⊎-elim
     (λ w. (omega arith, (omega arith, rw (w .1) (count-beginning s (l .i) (l .n) (l .inv .1 .1) more (sym test ∙ not-true _ (w .0 .taken))))))
@@ -46,7 +36,9 @@ loop-again c =
     (c .if1 .came)
 
 returns : tie.Need-returns Inv-loop μ-loop
-returns c = omega (arith, c .before .loop .inv .1 .1, no-byte-left (c .before .before .before .args .bytes .now) (c .before .loop .i) (omega arith))
+returns c =
+    let at-loop = c .before in
+    omega (arith, at-loop .loop .inv .1 .1, no-byte-left (at-loop .before .before .args .bytes .now) (at-loop .loop .i) (omega arith))
 
 pub scalar-count-spec : {M : Type 1} → statement M
 scalar-count-spec =
@@ -55,10 +47,10 @@ scalar-count-spec =
     Inv-loop
     μ-loop
     loop-holds
-    shared-slice-read-continues
+    (λ c. omega arith)
     continues-requires
-    add-n
-    add-i
-    loop-less
+    (λ c. omega arith)
+    (λ c. omega arith)
+    (λ c. omega arith)
     loop-again
     returns)

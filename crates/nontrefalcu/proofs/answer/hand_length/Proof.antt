@@ -8,38 +8,16 @@ use borrow.Author.Needs.{needs}
 use Rattle.nontrefalcu.proofs.answer.hand_length.Statement.{statement}
 use Rattle.nontrefalcu.proofs.answer.hand_length.Tie as tie
 
-clear-requires : tie.Need-clear-requires
-clear-requires c κs = search needs
-
-enum-known-written : tie.Need-enum-known-written
-enum-known-written c = search needs
-
-enum-known-written-2 : tie.Need-enum-known-written-2
-enum-known-written-2 c = search needs
-
 cast-t10 : tie.Need-cast-t10
 cast-t10 c =
-    let entry = c .before .before .before .before .before .before .before .before in
-    let fits = wrote-fits (entry .pre) (c .before .written2 .given .1) in
-    search needs
-
-slice-aggregate-put-words : tie.Need-slice-aggregate-put-words
-slice-aggregate-put-words c = search needs
-
-put-words-requires : tie.Need-put-words-requires
-put-words-requires c κs = search needs
-
-same-length : tie.Need-same-length
-same-length c = search needs
+    let at-written2 = c .before in let start = at-written2 .before .before .before .before .before .before in
+    let entry = start .before in let fits = wrote-fits (entry .pre) (at-written2 .written2 .given .1) in search needs
 
 returns : tie.Need-returns
 unfolding writtenLength
 returns c =
-    let refusal = ap writtenLength (c .before .written .given .1) in
-    (refused-number refusal, refused-table _ _ (c .before .before .before .before .before .clear .ensures) refusal)
-
-same-length-2 : tie.Need-same-length-2
-same-length-2 c = search needs
+    let at-written = c .before in let at-clear = at-written .before .before .before .before in
+    let refusal = ap writtenLength (at-written .written .given .1) in (refused-number refusal, refused-table _ _ (at-clear .clear .ensures) refusal)
 
 returns-2 : tie.Need-returns-2
 unfolding writtenLength
@@ -54,13 +32,13 @@ pub hand-length-spec : {M : Type 1} → statement M
 hand-length-spec =
     tie.close
     (tie.spec
-    clear-requires
-    enum-known-written
-    enum-known-written-2
+    (λ c κs. search needs)
+    (λ c. search needs)
+    (λ c. search needs)
     cast-t10
-    slice-aggregate-put-words
-    put-words-requires
-    same-length
+    (λ c. search needs)
+    (λ c κs. search needs)
+    (λ c. search needs)
     returns
-    same-length-2
+    (λ c. search needs)
     returns-2)

@@ -4,62 +4,23 @@ use Rattle.nontrefalcu.specs.Exports.{headerAt}
 use Rattle.nontrefalcu.proofs.header.header_at.Statement.{statement}
 use Rattle.nontrefalcu.proofs.header.header_at.Tie as tie
 
-word-of-requires : tie.Need-word-of-requires
-word-of-requires c κs = search needs
-
-word-of-requires-2 : tie.Need-word-of-requires-2
-word-of-requires-2 c κs = search needs
-
-word-of-requires-3 : tie.Need-word-of-requires-3
-word-of-requires-3 c κs = search needs
-
-word-of-requires-4 : tie.Need-word-of-requires-4
-word-of-requires-4 c κs = search needs
-
-word-of-requires-5 : tie.Need-word-of-requires-5
-word-of-requires-5 c κs = search needs
-
-word-of-requires-6 : tie.Need-word-of-requires-6
-word-of-requires-6 c κs = search needs
-
-word-of-requires-7 : tie.Need-word-of-requires-7
-word-of-requires-7 c κs = search needs
-
-word-of-requires-8 : tie.Need-word-of-requires-8
-word-of-requires-8 c κs = search needs
-
-word-of-requires-9 : tie.Need-word-of-requires-9
-word-of-requires-9 c κs = search needs
-
-word-of-requires-10 : tie.Need-word-of-requires-10
-word-of-requires-10 c κs = search needs
-
-word-of-requires-11 : tie.Need-word-of-requires-11
-word-of-requires-11 c κs = search needs
-
-word-of-requires-12 : tie.Need-word-of-requires-12
-word-of-requires-12 c κs = search needs
-
 returns : tie.Need-returns
 unfolding headerAt
 returns c =
-    let e1 = c .before .before .before .before .before .before .before .before .before .before .before .word-of .ensures in
-    let e2 = c .before .before .before .before .before .before .before .before .before .before .word-of2 .ensures in
-    let e3 = c .before .before .before .before .before .before .before .before .before .word-of3 .ensures in
-    let e4 = c .before .before .before .before .before .before .before .before .word-of4 .ensures in
-    let e5 = c .before .before .before .before .before .before .before .word-of5 .ensures in
-    let e6 = c .before .before .before .before .before .before .word-of6 .ensures in
-    let e7 = c .before .before .before .before .before .word-of7 .ensures in
-    let e8 = c .before .before .before .before .word-of8 .ensures in
-    let e9 = c .before .before .before .word-of9 .ensures in
-    let e10 = c .before .before .word-of10 .ensures in
-    let e11 = c .before .word-of11 .ensures in
-    let e12 = c .word-of12 .ensures in
+    let at-word-of11 = c .before in let at-word-of10 = at-word-of11 .before in let at-word-of9 = at-word-of10 .before in
+    let at-word-of8 = at-word-of9 .before in let at-word-of7 = at-word-of8 .before in let at-word-of6 = at-word-of7 .before in
+    let at-word-of5 = at-word-of6 .before in let at-word-of4 = at-word-of5 .before in let at-word-of3 = at-word-of4 .before in
+    let at-word-of2 = at-word-of3 .before in let at-word-of = at-word-of2 .before in
+    let e1 = at-word-of .word-of .ensures in let e2 = at-word-of2 .word-of2 .ensures in let e3 = at-word-of3 .word-of3 .ensures in
+    let e4 = at-word-of4 .word-of4 .ensures in let e5 = at-word-of5 .word-of5 .ensures in let e6 = at-word-of6 .word-of6 .ensures in
+    let e7 = at-word-of7 .word-of7 .ensures in let e8 = at-word-of8 .word-of8 .ensures in let e9 = at-word-of9 .word-of9 .ensures in
+    let e10 = at-word-of10 .word-of10 .ensures in let e11 = at-word-of11 .word-of11 .ensures in let e12 = c .word-of12 .ensures in
     λ i. record {
       «target_version» = e1 i;
       «compile_flags» = e2 i;
       creator = record { source = e3 i; place = e4 i; length = e5 i };
-      rd11 = record { identifier = e6 i; «resource_binding_stride» = e7 i; «interface_slot_count» = e8 i };
+      rd11 = record
+          { identifier = e6 i; «resource_binding_stride» = e7 i; «interface_slot_count» = e8 i };
       «binding_count» = e9 i;
       «buffer_count» = e10 i;
       «variable_count» = e11 i;
@@ -70,16 +31,16 @@ pub header-at-spec : {M : Type 1} → statement M
 header-at-spec =
     tie.close
     (tie.spec
-    word-of-requires
-    word-of-requires-2
-    word-of-requires-3
-    word-of-requires-4
-    word-of-requires-5
-    word-of-requires-6
-    word-of-requires-7
-    word-of-requires-8
-    word-of-requires-9
-    word-of-requires-10
-    word-of-requires-11
-    word-of-requires-12
+    (λ c κs. search needs)
+    (λ c κs. search needs)
+    (λ c κs. search needs)
+    (λ c κs. search needs)
+    (λ c κs. search needs)
+    (λ c κs. search needs)
+    (λ c κs. search needs)
+    (λ c κs. search needs)
+    (λ c κs. search needs)
+    (λ c κs. search needs)
+    (λ c κs. search needs)
+    (λ c κs. search needs)
     returns)

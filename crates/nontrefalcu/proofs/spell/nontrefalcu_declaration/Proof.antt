@@ -3,7 +3,7 @@ use mathlib.Core.Path.{ap₂}
 use lib.ListN.{length}
 use Rattle.reflection.specs.declared.TypeDesc.{TypeDesc}
 use Rattle.reflection.specs.declared.CBufferVariable.{CBufferVariable}
-use Rattle.emit.specs.Written.{fitting}
+use Rattle.text_output.specs.Written.{fitting}
 use Rattle.spelling.specs.Spelling.{declaration}
 use Rattle.nontrefalcu.specs.Exports.{declarationInto}
 use Rattle.nontrefalcu.proofs.WrittenText.{length-fits, handed-out}
@@ -11,23 +11,8 @@ use borrow.Author.Needs.{needs}
 use Rattle.nontrefalcu.proofs.spell.nontrefalcu_declaration.Statement.{statement}
 use Rattle.nontrefalcu.proofs.spell.nontrefalcu_declaration.Tie as tie
 
-type-at-requires : tie.Need-type-at-requires
-type-at-requires c κs = search needs
-
-variable-at-requires : tie.Need-variable-at-requires
-variable-at-requires c κs = search needs
-
-declaration-requires : tie.Need-declaration-requires
-declaration-requires c κs = search needs
-
 hand-length-requires : tie.Need-hand-length-requires
-hand-length-requires c κs = length-fits _ _ (c .before .before .before .declaration .ensures .0)
-
-same-length : tie.Need-same-length
-same-length c = search needs
-
-same-length-2 : tie.Need-same-length-2
-same-length-2 c = search needs
+hand-length-requires c κs = length-fits _ _ (c .before .before .before .declaration .ensures .answer)
 
 returns : tie.Need-returns
 unfolding declarationInto
@@ -41,16 +26,17 @@ returns c =
     ap₂ (λ (t : TypeDesc). λ (v : CBufferVariable). fitting (length (a .out .now)) (declaration (a .chunk .now) (a .edits .now) t (v .name)))
     (at-type-at .type-at .ensures)
     (at-variable-at .variable-at .ensures) in
-    handed-out asked _ _ (at-declaration .declaration .ensures) (at-hand-length .hand-length .ensures)
+    let wrote = at-declaration .declaration .ensures in
+    handed-out asked _ _ (wrote .answer, wrote .out) (at-hand-length .hand-length .ensures)
 
 pub nontrefalcu-declaration-spec : {M : Type 1} → statement M
 nontrefalcu-declaration-spec =
     tie.close
     (tie.spec
-    type-at-requires
-    variable-at-requires
-    declaration-requires
+    (λ c κs. search needs)
+    (λ c κs. search needs)
+    (λ c κs. search needs)
     hand-length-requires
-    same-length
-    same-length-2
+    (λ c. search needs)
+    (λ c. search needs)
     returns)

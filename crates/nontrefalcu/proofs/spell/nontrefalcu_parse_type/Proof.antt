@@ -6,27 +6,6 @@ use borrow.Author.Needs.{needs}
 use Rattle.nontrefalcu.proofs.spell.nontrefalcu_parse_type.Statement.{statement}
 use Rattle.nontrefalcu.proofs.spell.nontrefalcu_parse_type.Tie as tie
 
-clear-requires : tie.Need-clear-requires
-clear-requires c κs = search needs
-
-parse-hlsl-type-requires : tie.Need-parse-hlsl-type-requires
-parse-hlsl-type-requires c κs = search needs
-
-enum-known-spelled : tie.Need-enum-known-spelled
-enum-known-spelled c = search needs
-
-enum-known-spelled-2 : tie.Need-enum-known-spelled-2
-enum-known-spelled-2 c = search needs
-
-slice-aggregate-put-words : tie.Need-slice-aggregate-put-words
-slice-aggregate-put-words c = search needs
-
-put-words-requires : tie.Need-put-words-requires
-put-words-requires c κs = search needs
-
-same-length : tie.Need-same-length
-same-length c = search needs
-
 returns : tie.Need-returns
 unfolding typeRead understood
 returns c =
@@ -34,9 +13,6 @@ returns c =
     let zeros = at-parse .before .before .before .clear .ensures in
     let outcome = ap understood (sym (at-parse .parse-hlsl-type .ensures) ∙ c .before .spelled .given .1) in
     (refused-number outcome, refused-table _ _ zeros outcome)
-
-same-length-2 : tie.Need-same-length-2
-same-length-2 c = search needs
 
 returns-2 : tie.Need-returns-2
 unfolding typeRead understood spellingWords
@@ -52,13 +28,13 @@ pub nontrefalcu-parse-type-spec : {M : Type 1} → statement M
 nontrefalcu-parse-type-spec =
     tie.close
     (tie.spec
-    clear-requires
-    parse-hlsl-type-requires
-    enum-known-spelled
-    enum-known-spelled-2
-    slice-aggregate-put-words
-    put-words-requires
-    same-length
+    (λ c κs. search needs)
+    (λ c κs. search needs)
+    (λ c. search needs)
+    (λ c. search needs)
+    (λ c. search needs)
+    (λ c κs. search needs)
+    (λ c. search needs)
     returns
-    same-length-2
+    (λ c. search needs)
     returns-2)

@@ -2,7 +2,7 @@
 use mathlib.Core.Path.{ap}
 use lib.ListN.{length}
 use Rattle.reflection.specs.declared.TypeDesc.{TypeDesc}
-use Rattle.emit.specs.Written.{fitting}
+use Rattle.text_output.specs.Written.{fitting}
 use Rattle.spelling.specs.Spelling.{typeName}
 use Rattle.nontrefalcu.specs.Exports.{typeNameInto}
 use Rattle.nontrefalcu.proofs.WrittenText.{length-fits, handed-out}
@@ -10,20 +10,8 @@ use borrow.Author.Needs.{needs}
 use Rattle.nontrefalcu.proofs.spell.nontrefalcu_type_name.Statement.{statement}
 use Rattle.nontrefalcu.proofs.spell.nontrefalcu_type_name.Tie as tie
 
-type-at-requires : tie.Need-type-at-requires
-type-at-requires c κs = search needs
-
-hlsl-type-name-requires : tie.Need-hlsl-type-name-requires
-hlsl-type-name-requires c κs = search needs
-
 hand-length-requires : tie.Need-hand-length-requires
-hand-length-requires c κs = length-fits _ _ (c .before .before .before .hlsl-type-name .ensures .0)
-
-same-length : tie.Need-same-length
-same-length c = search needs
-
-same-length-2 : tie.Need-same-length-2
-same-length-2 c = search needs
+hand-length-requires c κs = length-fits _ _ (c .before .before .before .hlsl-type-name .ensures .answer)
 
 returns : tie.Need-returns
 unfolding typeNameInto
@@ -33,15 +21,16 @@ returns c =
     let at-type-at = at-type-name .before .before in
     let a = at-type-at .before .before .before .before .before .before .args in
     let asked = ap (λ (t : TypeDesc). fitting (length (a .out .now)) (typeName (a .chunk .now) (a .edits .now) t)) (at-type-at .type-at .ensures) in
-    handed-out asked _ _ (at-type-name .hlsl-type-name .ensures) (at-hand-length .hand-length .ensures)
+    let wrote = at-type-name .hlsl-type-name .ensures in
+    handed-out asked _ _ (wrote .answer, wrote .out) (at-hand-length .hand-length .ensures)
 
 pub nontrefalcu-type-name-spec : {M : Type 1} → statement M
 nontrefalcu-type-name-spec =
     tie.close
     (tie.spec
-    type-at-requires
-    hlsl-type-name-requires
+    (λ c κs. search needs)
+    (λ c κs. search needs)
     hand-length-requires
-    same-length
-    same-length-2
+    (λ c. search needs)
+    (λ c. search needs)
     returns)

@@ -11,7 +11,8 @@ use Rattle.readable.proofs.bindings.bindings_readable.Statement.{statem
 use Rattle.readable.proofs.bindings.bindings_readable.Tie as tie
 
 abbrev Inv-loop : tie.InvT-loop
-Inv-loop chunk edits wide table count i₀ left₀ i left = (bindingsChecked chunk edits wide table 0 count ≡ bindingsChecked chunk edits wide table i left) × (i + left ≡ count)
+Inv-loop chunk edits wide table count i₀ left₀ i left =
+    (bindingsChecked chunk edits wide table 0 count ≡ bindingsChecked chunk edits wide table i left) × (i + left ≡ count)
 
 abbrev μ-loop : tie.MeasureT-loop
 μ-loop chunk edits wide table count i₀ left₀ i left = left
@@ -19,36 +20,26 @@ abbrev μ-loop : tie.MeasureT-loop
 loop-holds : tie.Need-loop-holds Inv-loop μ-loop
 loop-holds c = (refl, omega arith)
 
-binding-at-requires : tie.Need-binding-at-requires Inv-loop μ-loop
-binding-at-requires c κs = search needs
-
-binding-readable-requires : tie.Need-binding-readable-requires Inv-loop μ-loop
-binding-readable-requires c κs = search needs
-
 returns : tie.Need-returns Inv-loop μ-loop
 returns c =
     let start = c .before .before .before .before .before .before .before .before in
     let turn = c .before .before .before .before in
     sym (turn .loop .inv .0
-    ∙ bindings-next (start .args .chunk .now) (start .args .edits .now) (start .args .wide) (start .args .table .now) (turn .loop .i) (turn .loop .left) (c .before .before .before .loop-test .taken)
-    ∙ both-fails _ _ (sym (c .before .binding-readable .ensures ∙ ap (bindingChecked (start .args .chunk .now) (start .args .edits .now) (start .args .wide)) (c .before .before .binding-at .ensures)) ∙ not-true (c .before .binding-readable .result) (c .if1 .taken)))
-
-add-i : tie.Need-add-i Inv-loop μ-loop
-add-i c = search needs
-
-sub-left : tie.Need-sub-left Inv-loop μ-loop
-sub-left c = search needs
-
-loop-less : tie.Need-loop-less Inv-loop μ-loop
-loop-less c = omega arith
+    ∙ bindings-next (start .args .chunk .now) (start .args .edits .now) (start .args .wide) (start .args .table .now) (turn .loop .i)
+    (turn .loop .left) (c .before .before .before .loop-test .taken)
+    ∙ both-fails _ _ (sym (c .before .binding-readable .ensures ∙ ap (bindingChecked (start .args .chunk .now) (start .args .edits .now)
+    (start .args .wide)) (c .before .before .binding-at .ensures)) ∙ not-true (c .before .binding-readable .result) (c .if1 .taken)))
 
 loop-again : tie.Need-loop-again Inv-loop μ-loop
 loop-again c =
     let start = c .before .before .before .before .before .before .before .before in
     let turn = c .before .before .before .before in (
       turn .loop .inv .0
-          ∙ bindings-next (start .args .chunk .now) (start .args .edits .now) (start .args .wide) (start .args .table .now) (turn .loop .i) (turn .loop .left) (c .before .before .before .loop-test .taken)
-          ∙ both-goes-on _ _ (sym (c .before .binding-readable .ensures ∙ ap (bindingChecked (start .args .chunk .now) (start .args .edits .now) (start .args .wide)) (c .before .before .binding-at .ensures)) ∙ not-false (c .before .binding-readable .result) (c .if1 .left)),
+          ∙ bindings-next (start .args .chunk .now) (start .args .edits .now) (start .args .wide) (start .args .table .now) (turn .loop .i)
+          (turn .loop .left) (c .before .before .before .loop-test .taken)
+          ∙ both-goes-on _ _ (sym (c .before .binding-readable .ensures ∙ ap
+          (bindingChecked (start .args .chunk .now) (start .args .edits .now) (start .args .wide)) (c .before .before .binding-at .ensures))
+          ∙ not-false (c .before .binding-readable .result) (c .if1 .left)),
       omega arith,
     )
 
@@ -57,7 +48,8 @@ returns-2 c =
     let start = c .before .before .before .before .before in
     let turn = c .before in
     sym (turn .loop .inv .0
-    ∙ bindings-none (start .args .chunk .now) (start .args .edits .now) (start .args .wide) (start .args .table .now) (turn .loop .i) (turn .loop .left) (c .loop-test .left))
+    ∙ bindings-none (start .args .chunk .now) (start .args .edits .now) (start .args .wide) (start .args .table .now) (turn .loop .i)
+    (turn .loop .left) (c .loop-test .left))
 
 pub bindings-readable-spec : {M : Type 1} → statement M
 bindings-readable-spec =
@@ -66,11 +58,11 @@ bindings-readable-spec =
     Inv-loop
     μ-loop
     loop-holds
-    binding-at-requires
-    binding-readable-requires
+    (λ c κs. search needs)
+    (λ c κs. search needs)
     returns
-    add-i
-    sub-left
-    loop-less
+    (λ c. search needs)
+    (λ c. search needs)
+    (λ c. omega arith)
     loop-again
     returns-2)

@@ -10,7 +10,8 @@ use Rattle.readable.proofs.buffers.buffers_readable.Statement.{statemen
 use Rattle.readable.proofs.buffers.buffers_readable.Tie as tie
 
 abbrev Inv-loop : tie.InvT-loop
-Inv-loop chunk edits table count variables i₀ left₀ rest₀ i left rest = (buffersChecked chunk edits table 0 count variables ≡ buffersChecked chunk edits table i left rest) × (i + left ≡ count)
+Inv-loop chunk edits table count variables i₀ left₀ rest₀ i left rest =
+    (buffersChecked chunk edits table 0 count variables ≡ buffersChecked chunk edits table i left rest) × (i + left ≡ count)
 
 abbrev μ-loop : tie.MeasureT-loop
 μ-loop chunk edits table count variables i₀ left₀ rest₀ i left rest = left
@@ -18,41 +19,38 @@ abbrev μ-loop : tie.MeasureT-loop
 loop-holds : tie.Need-loop-holds Inv-loop μ-loop
 loop-holds c = (refl, omega arith)
 
-buffer-at-requires : tie.Need-buffer-at-requires Inv-loop μ-loop
-buffer-at-requires c κs = search needs
-
-name-readable-requires : tie.Need-name-readable-requires Inv-loop μ-loop
-name-readable-requires c κs = search needs
-
 returns : tie.Need-returns Inv-loop μ-loop
 returns c =
     let start = c .before .before .before .before .before .before .before .before .before in
     let turn = c .before .before .before .before .before in
     sym (turn .loop .inv .0
-    ∙ buffer-name-fails (start .args .chunk .now) (start .args .edits .now) (start .args .table .now) (turn .loop .i) (turn .loop .left) (turn .loop .rest) (c .before .before .before .buffer-at .result) (c .before .before .before .before .loop-test .taken) (c .before .before .before .buffer-at .ensures) (sym (c .before .name-readable .ensures) ∙ not-true (c .before .name-readable .result) (c .if1 .taken)))
+    ∙ buffer-name-fails (start .args .chunk .now) (start .args .edits .now) (start .args .table .now) (turn .loop .i) (turn .loop .left)
+    (turn .loop .rest) (c .before .before .before .buffer-at .result) (c .before .before .before .before .loop-test .taken)
+    (c .before .before .before .buffer-at .ensures) (sym (c .before .name-readable .ensures) ∙ not-true (c .before .name-readable .result)
+    (c .if1 .taken)))
 
 returns-2 : tie.Need-returns-2 Inv-loop μ-loop
 returns-2 c =
     let start = c .before .before .before .before .before .before .before .before .before .before .before in
     let turn = c .before .before .before .before .before .before .before in
     sym (turn .loop .inv .0
-    ∙ buffer-count-fails (start .args .chunk .now) (start .args .edits .now) (start .args .table .now) (turn .loop .i) (turn .loop .left) (turn .loop .rest) (c .before .before .before .before .before .buffer-at .result) (c .before .before .before .before .before .before .loop-test .taken) (c .before .before .before .before .before .buffer-at .ensures) (sym (c .before .before .before .name-readable .ensures) ∙ not-false (c .before .before .before .name-readable .result) (c .before .before .if1 .left)) (c .if2 .taken))
-
-add-i : tie.Need-add-i Inv-loop μ-loop
-add-i c = search needs
-
-sub-left : tie.Need-sub-left Inv-loop μ-loop
-sub-left c = search needs
-
-loop-less : tie.Need-loop-less Inv-loop μ-loop
-loop-less c = omega arith
+    ∙ buffer-count-fails (start .args .chunk .now) (start .args .edits .now) (start .args .table .now) (turn .loop .i) (turn .loop .left)
+    (turn .loop .rest) (c .before .before .before .before .before .buffer-at .result)
+    (c .before .before .before .before .before .before .loop-test .taken) (c .before .before .before .before .before .buffer-at .ensures)
+    (sym (c .before .before .before .name-readable .ensures) ∙ not-false (c .before .before .before .name-readable .result)
+    (c .before .before .if1 .left)) (c .if2 .taken))
 
 loop-again : tie.Need-loop-again Inv-loop μ-loop
 loop-again c =
     let start = c .before .before .before .before .before .before .before .before .before .before .before .before in
     let turn = c .before .before .before .before .before .before .before .before in (
       turn .loop .inv .0
-          ∙ buffer-passes (start .args .chunk .now) (start .args .edits .now) (start .args .table .now) (turn .loop .i) (turn .loop .left) (turn .loop .rest) (c .before .before .before .before .before .before .buffer-at .result) (c .before .before .before .before .before .before .before .loop-test .taken) (c .before .before .before .before .before .before .buffer-at .ensures) (sym (c .before .before .before .before .name-readable .ensures) ∙ not-false (c .before .before .before .before .name-readable .result) (c .before .before .before .if1 .left)) (c .before .if2 .left),
+          ∙ buffer-passes (start .args .chunk .now) (start .args .edits .now) (start .args .table .now) (turn .loop .i) (turn .loop .left)
+          (turn .loop .rest) (c .before .before .before .before .before .before .buffer-at .result)
+          (c .before .before .before .before .before .before .before .loop-test .taken)
+          (c .before .before .before .before .before .before .buffer-at .ensures)
+          (sym (c .before .before .before .before .name-readable .ensures) ∙ not-false (c .before .before .before .before .name-readable .result)
+          (c .before .before .before .if1 .left)) (c .before .if2 .left),
       omega arith,
     )
 
@@ -61,7 +59,8 @@ returns-3 c =
     let start = c .before .before .before .before .before in
     let turn = c .before in
     sym (turn .loop .inv .0
-    ∙ buffers-none (start .args .chunk .now) (start .args .edits .now) (start .args .table .now) (turn .loop .i) (turn .loop .left) (turn .loop .rest) (c .loop-test .left))
+    ∙ buffers-none (start .args .chunk .now) (start .args .edits .now) (start .args .table .now) (turn .loop .i) (turn .loop .left) (turn .loop .rest)
+    (c .loop-test .left))
 
 pub buffers-readable-spec : {M : Type 1} → statement M
 buffers-readable-spec =
@@ -70,12 +69,12 @@ buffers-readable-spec =
     Inv-loop
     μ-loop
     loop-holds
-    buffer-at-requires
-    name-readable-requires
+    (λ c κs. search needs)
+    (λ c κs. search needs)
     returns
     returns-2
-    add-i
-    sub-left
-    loop-less
+    (λ c. search needs)
+    (λ c. search needs)
+    (λ c. omega arith)
     loop-again
     returns-3)

@@ -5,9 +5,6 @@ use borrow.Author.Needs.{needs}
 use Rattle.readable.proofs.header.count_readable.Statement.{statement}
 use Rattle.readable.proofs.header.count_readable.Tie as tie
 
-div-if1 : tie.Need-div-if1
-div-if1 c = search needs
-
 returns : tie.Need-returns
 returns c =
     let start = c .before in
@@ -19,4 +16,4 @@ returns-2 c =
     sym (count-exceeds (start .args .width) (start .args .long) (start .args .most) (start .args .n) (c .if1 .left))
 
 pub count-readable-spec : {M : Type 1} → statement M
-count-readable-spec = tie.close (tie.spec div-if1 returns returns-2)
+count-readable-spec = tie.close (tie.spec (λ c. search needs) returns returns-2)

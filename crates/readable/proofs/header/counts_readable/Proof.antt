@@ -5,43 +5,25 @@ use borrow.Author.Needs.{needs}
 use Rattle.readable.proofs.header.counts_readable.Statement.{statement}
 use Rattle.readable.proofs.header.counts_readable.Tie as tie
 
-count-readable-requires : tie.Need-count-readable-requires
-count-readable-requires c κs = search needs
-
-count-readable-requires-2 : tie.Need-count-readable-requires-2
-count-readable-requires-2 c κs = search needs
-
-count-readable-requires-3 : tie.Need-count-readable-requires-3
-count-readable-requires-3 c κs = search needs
-
-count-readable-requires-4 : tie.Need-count-readable-requires-4
-count-readable-requires-4 c κs = search needs
-
-both-requires : tie.Need-both-requires
-both-requires c κs = search needs
-
-both-requires-2 : tie.Need-both-requires-2
-both-requires-2 c κs = search needs
-
-both-requires-3 : tie.Need-both-requires-3
-both-requires-3 c κs = search needs
-
 returns : tie.Need-returns
 unfolding countsChecked
 returns c =
-    both-are (c .both3 .ensures) (c .before .before .before .before .before .before .count-readable .ensures)
-    (both-are (c .before .both2 .ensures) (c .before .before .before .before .before .count-readable2 .ensures)
-    (both-are (c .before .before .both .ensures) (c .before .before .before .before .count-readable3 .ensures) (c .before .before .before .count-readable4 .ensures)))
+    let at-both2 = c .before in let at-both = at-both2 .before in let at-count-readable4 = at-both .before in
+    let at-count-readable3 = at-count-readable4 .before in let at-count-readable2 = at-count-readable3 .before in
+    let at-count-readable = at-count-readable2 .before in
+    both-are (c .both3 .ensures) (at-count-readable .count-readable .ensures)
+    (both-are (at-both2 .both2 .ensures) (at-count-readable2 .count-readable2 .ensures)
+    (both-are (at-both .both .ensures) (at-count-readable3 .count-readable3 .ensures) (at-count-readable4 .count-readable4 .ensures)))
 
 pub counts-readable-spec : {M : Type 1} → statement M
 counts-readable-spec =
     tie.close
     (tie.spec
-    count-readable-requires
-    count-readable-requires-2
-    count-readable-requires-3
-    count-readable-requires-4
-    both-requires
-    both-requires-2
-    both-requires-3
+    (λ c κs. search needs)
+    (λ c κs. search needs)
+    (λ c κs. search needs)
+    (λ c κs. search needs)
+    (λ c κs. search needs)
+    (λ c κs. search needs)
+    (λ c κs. search needs)
     returns)

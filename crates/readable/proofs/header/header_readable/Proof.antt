@@ -16,27 +16,13 @@ returns-2 c =
     let start = c .before .before .before .before in
     sym (edits-too-long (start .args .chunk .now) (start .args .edits .now) (start .args .def) (c .before .if1 .left) (c .if2 .taken))
 
-rd11-absent-requires : tie.Need-rd11-absent-requires
-rd11-absent-requires c κs = search needs
-
-version-readable-requires : tie.Need-version-readable-requires
-version-readable-requires c κs = search needs
-
-name-readable-requires : tie.Need-name-readable-requires
-name-readable-requires c κs = search needs
-
-both-requires : tie.Need-both-requires
-both-requires c κs = search needs
-
-both-requires-2 : tie.Need-both-requires-2
-both-requires-2 c κs = search needs
-
 returns-3 : tie.Need-returns-3
 returns-3 c =
     let start = c .before .before .before .before .before .before .before .before .before .before in
     both-are (c .both2 .ensures) (c .before .before .before .before .before .rd11-absent .ensures)
     (both-are (c .before .both .ensures) (c .before .before .before .before .version-readable .ensures) (c .before .before .name-readable .ensures))
-    ∙ sym (lengths-fit (start .args .chunk .now) (start .args .edits .now) (start .args .def) (c .before .before .before .before .before .before .before .if1 .left) (c .before .before .before .before .before .before .if2 .left))
+    ∙ sym (lengths-fit (start .args .chunk .now) (start .args .edits .now) (start .args .def)
+    (c .before .before .before .before .before .before .before .if1 .left) (c .before .before .before .before .before .before .if2 .left))
 
 pub header-readable-spec : {M : Type 1} → statement M
 header-readable-spec =
@@ -44,9 +30,9 @@ header-readable-spec =
     (tie.spec
     returns
     returns-2
-    rd11-absent-requires
-    version-readable-requires
-    name-readable-requires
-    both-requires
-    both-requires-2
+    (λ c κs. search needs)
+    (λ c κs. search needs)
+    (λ c κs. search needs)
+    (λ c κs. search needs)
+    (λ c κs. search needs)
     returns-3)

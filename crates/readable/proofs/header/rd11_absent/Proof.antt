@@ -6,24 +6,6 @@ use borrow.Author.Needs.{needs}
 use Rattle.readable.proofs.header.rd11_absent.Statement.{statement}
 use Rattle.readable.proofs.header.rd11_absent.Tie as tie
 
-is-sm5-requires : tie.Need-is-sm5-requires
-is-sm5-requires c κs = search needs
-
-same-requires : tie.Need-same-requires
-same-requires c κs = search needs
-
-same-requires-2 : tie.Need-same-requires-2
-same-requires-2 c κs = search needs
-
-same-requires-3 : tie.Need-same-requires-3
-same-requires-3 c κs = search needs
-
-both-requires : tie.Need-both-requires
-both-requires c κs = search needs
-
-both-requires-2 : tie.Need-both-requires-2
-both-requires-2 c κs = search needs
-
 returns : tie.Need-returns
 returns c = sym (absent-5 (c .before .before .args .def) (sym (c .before .is-sm5 .ensures) ∙ c .if1 .taken))
 
@@ -38,11 +20,11 @@ pub rd11-absent-spec : {M : Type 1} → statement M
 rd11-absent-spec =
     tie.close
     (tie.spec
-    is-sm5-requires
-    same-requires
-    same-requires-2
-    same-requires-3
-    both-requires
-    both-requires-2
+    (λ c κs. search needs)
+    (λ c κs. search needs)
+    (λ c κs. search needs)
+    (λ c κs. search needs)
+    (λ c κs. search needs)
+    (λ c κs. search needs)
     returns
     returns-2)

@@ -7,24 +7,15 @@ use borrow.Author.Needs.{needs}
 use Rattle.readable.proofs.header.version_readable.Statement.{statement}
 use Rattle.readable.proofs.header.version_readable.Tie as tie
 
-is-sm5-requires : tie.Need-is-sm5-requires
-is-sm5-requires c κs = search needs
-
-rd11-allowed-requires : tie.Need-rd11-allowed-requires
-rd11-allowed-requires c κs = search needs
-
-major-of-requires : tie.Need-major-of-requires
-major-of-requires c κs = search needs
-
 returns : tie.Need-returns
 returns c =
-    c .rd11-allowed .ensures
-    ∙ sym (version-5 (c .before .before .before .before .args .def) (sym (c .before .before .is-sm5 .ensures) ∙ c .before .if1 .taken))
+    let at-if1 = c .before in let at-is-sm5 = at-if1 .before in let start = at-is-sm5 .before .before in
+    c .rd11-allowed .ensures ∙ sym (version-5 (start .args .def) (sym (at-is-sm5 .is-sm5 .ensures) ∙ at-if1 .if1 .taken))
 
 returns-2 : tie.Need-returns-2
 returns-2 c =
-    ap (λ (m : ℕ). eqb m 4) (c .major-of .ensures)
-    ∙ sym (version-other (c .before .before .before .before .args .def) (sym (c .before .before .is-sm5 .ensures) ∙ c .before .if1 .left))
+    let at-if1 = c .before in let at-is-sm5 = at-if1 .before in let start = at-is-sm5 .before .before in
+    ap (λ (m : ℕ). eqb m 4) (c .major-of .ensures) ∙ sym (version-other (start .args .def) (sym (at-is-sm5 .is-sm5 .ensures) ∙ at-if1 .if1 .left))
 
 pub version-readable-spec : {M : Type 1} → statement M
-version-readable-spec = tie.close (tie.spec is-sm5-requires rd11-allowed-requires major-of-requires returns returns-2)
+version-readable-spec = tie.close (tie.spec (λ c κs. search needs) (λ c κs. search needs) (λ c κs. search needs) returns returns-2)

@@ -8,38 +8,23 @@ use borrow.Author.Needs.{needs}
 use Rattle.readable.proofs.names.part_readable.Statement.{statement}
 use Rattle.readable.proofs.names.part_readable.Tie as tie
 
-part-requires : tie.Need-part-requires
-part-requires c κs = search needs
-
-inside-requires : tie.Need-inside-requires
-inside-requires c κs = search needs
-
-without-nul-requires : tie.Need-without-nul-requires
-without-nul-requires c κs = search needs
-
-utf8-ok-requires : tie.Need-utf8-ok-requires
-utf8-ok-requires c κs = search needs
-
-both-requires : tie.Need-both-requires
-both-requires c κs = search needs
-
-both-requires-2 : tie.Need-both-requires-2
-both-requires-2 c κs = search needs
-
 returns : tie.Need-returns
 unfolding nameReadable
 returns c =
-    both-are (c .both2 .ensures) (c .before .before .before .before .inside .ensures)
-    (both-are (c .before .both .ensures) (c .before .before .before .without-nul .ensures ∙ ap withoutNul (c .before .before .before .before .before .part .ensures)) (c .before .before .utf8-ok .ensures ∙ ap wellFormed (c .before .before .before .before .before .part .ensures)))
+    let at-both = c .before in let at-utf8-ok = at-both .before in let at-without-nul = at-utf8-ok .before in
+    let at-inside = at-without-nul .before in let at-part = at-inside .before in
+    both-are (c .both2 .ensures) (at-inside .inside .ensures) (both-are (at-both .both .ensures)
+    (at-without-nul .without-nul .ensures ∙ ap withoutNul (at-part .part .ensures))
+    (at-utf8-ok .utf8-ok .ensures ∙ ap wellFormed (at-part .part .ensures)))
 
 pub part-readable-spec : {M : Type 1} → statement M
 part-readable-spec =
     tie.close
     (tie.spec
-    part-requires
-    inside-requires
-    without-nul-requires
-    utf8-ok-requires
-    both-requires
-    both-requires-2
+    (λ c κs. search needs)
+    (λ c κs. search needs)
+    (λ c κs. search needs)
+    (λ c κs. search needs)
+    (λ c κs. search needs)
+    (λ c κs. search needs)
     returns)

@@ -6,7 +6,7 @@ use native.Mathlib.Omega.{arith}
 use borrow.Author.Needs.{needs}
 use borrow.Author.Tests.{not-true, not-false}
 use Rattle.reflection.specs.declared.TypeDesc.{TypeDesc}
-use Rattle.reflection.specs.Decode.{nodeFromTable}
+use Rattle.tables.specs.Decode.{nodeFromTable}
 use Rattle.readable.specs.Checks.{nodeChecked, membersLeft, typeLeft, nodesFrom, leftBy, NextWithin}
 use Rattle.readable.proofs.WalkTests.{no-level, no-node, node-fails, node-passes, members-done, member-fails, member-passes}
 use Prim.Native.Nat.{ℕ, _+_, _-_, _<_, _≤_}
@@ -19,7 +19,7 @@ use Rattle.readable.proofs.types.check_type.Reads as check-type
 use Rattle.readable.proofs.types.check_type.Kinds as check-type-kinds
 use Rattle.readable.proofs.types.+check_members+check_type.Lts-check_type as check-type-lts
 use Rattle.readable.proofs.types.node_readable.Reads as node-readable-reads
-use Rattle.reflection.proofs.type_at.Reads as type-at-reads
+use Rattle.tables.proofs.type_at.Reads as type-at-reads
 use Rattle.readable.proofs.types.+check_members+check_type.{statement}
 use Rattle.readable.proofs.types.+check_members+check_type.Tie.{close}
 
@@ -50,7 +50,9 @@ check-type-below t =
     and 3 check-type-kinds.ps (falls 3 check-type-kinds.ps _<_ μ-check-type t) check-type.Pre
 
 abbrev check-members-Inv-loop : check-members-lts.InvT-loop
-check-members-Inv-loop chunk edits sm5 types count levels n k next₀ left₀ next left = (membersLeft (typeLeft (nodeChecked chunk edits sm5) true levels) n (nodesFrom types k (count - k)) ≡ membersLeft (typeLeft (nodeChecked chunk edits sm5) true levels) left (nodesFrom types next (count - next))) × (next ≤ count)
+check-members-Inv-loop chunk edits sm5 types count levels n k next₀ left₀ next left =
+    (membersLeft (typeLeft (nodeChecked chunk edits sm5) true levels) n (nodesFrom types k (count - k))
+    ≡ membersLeft (typeLeft (nodeChecked chunk edits sm5) true levels) left (nodesFrom types next (count - next))) × (next ≤ count)
 
 abbrev check-members-μ-loop : check-members-lts.MeasureT-loop
 check-members-μ-loop chunk edits sm5 types count levels n k next₀ left₀ next left = left
@@ -82,7 +84,10 @@ check-members-returns t c =
     let turn = c .before .before .before .before in
     record {
       outcome = turn .loop .inv .0
-          ∙ member-fails (typeLeft (nodeChecked (start .args .chunk .now) (start .args .edits .now) (start .args .sm5)) true (start .args .levels)) (turn .loop .left) (nodesFrom (start .args .types .now) (turn .loop .next) (start .args .count - turn .loop .next)) (c .before .before .before .loop-test .taken) (c .before .before .check-type .ensures .outcome ∙ ap (leftBy (start .args .types .now) (start .args .count)) (c .enum-told .given .1));
+          ∙ member-fails (typeLeft (nodeChecked (start .args .chunk .now) (start .args .edits .now) (start .args .sm5)) true (start .args .levels))
+          (turn .loop .left) (nodesFrom (start .args .types .now) (turn .loop .next) (start .args .count - turn .loop .next))
+          (c .before .before .before .loop-test .taken) (c .before .before .check-type .ensures .outcome
+          ∙ ap (leftBy (start .args .types .now) (start .args .count)) (c .enum-told .given .1));
       within = tt;
     }
 
@@ -112,7 +117,11 @@ check-members-loop-again t c =
     let start = c .before .before .before .before .before .before .before .before .before in
     let turn = c .before .before .before .before .before in (
       turn .loop .inv .0
-          ∙ member-passes (typeLeft (nodeChecked (start .args .chunk .now) (start .args .edits .now) (start .args .sm5)) true (start .args .levels)) (turn .loop .left) (nodesFrom (start .args .types .now) (turn .loop .next) (start .args .count - turn .loop .next)) (nodesFrom (start .args .types .now) (c .before .answer .given .0 .0) (start .args .count - c .before .answer .given .0 .0)) (c .before .before .before .before .loop-test .taken) (c .before .before .before .check-type .ensures .outcome ∙ ap (leftBy (start .args .types .now) (start .args .count)) (c .before .answer .given .1)),
+          ∙ member-passes (typeLeft (nodeChecked (start .args .chunk .now) (start .args .edits .now) (start .args .sm5)) true (start .args .levels))
+          (turn .loop .left) (nodesFrom (start .args .types .now) (turn .loop .next) (start .args .count - turn .loop .next))
+          (nodesFrom (start .args .types .now) (c .before .answer .given .0 .0) (start .args .count - c .before .answer .given .0 .0))
+          (c .before .before .before .before .loop-test .taken) (c .before .before .before .check-type .ensures .outcome
+          ∙ ap (leftBy (start .args .types .now) (start .args .count)) (c .before .answer .given .1)),
       subst (NextWithin (start .args .count)) (c .before .answer .given .1) (c .before .before .before .check-type .ensures .within),
     )
 
@@ -125,7 +134,8 @@ check-members-returns-2 t c =
     let turn = c .before in
     record {
       outcome = turn .loop .inv .0
-          ∙ members-done (typeLeft (nodeChecked (start .args .chunk .now) (start .args .edits .now) (start .args .sm5)) true (start .args .levels)) (turn .loop .left) (nodesFrom (start .args .types .now) (turn .loop .next) (start .args .count - turn .loop .next)) (c .loop-test .left);
+          ∙ members-done (typeLeft (nodeChecked (start .args .chunk .now) (start .args .edits .now) (start .args .sm5)) true (start .args .levels))
+          (turn .loop .left) (nodesFrom (start .args .types .now) (turn .loop .next) (start .args .count - turn .loop .next)) (c .loop-test .left);
       within = turn .loop .inv .1;
     }
 
@@ -139,7 +149,12 @@ check-type-returns : (t : ℕ) → check-type-lts.Need-returns (
 ) (check-type-at t) check-type.Post
 check-type-returns t c =
     let start = c .before .before .before .before in
-    record { outcome = no-level (start .args .types .now) (nodeChecked (start .args .chunk .now) (start .args .edits .now) (start .args .sm5)) (start .args .inner) (start .args .levels) (nodesFrom (start .args .types .now) (start .args .k) (start .args .count - start .args .k)) (c .if1 .taken); within = tt }
+    record {
+      outcome = no-level (start .args .types .now) (nodeChecked (start .args .chunk .now) (start .args .edits .now) (start .args .sm5))
+          (start .args .inner) (start .args .levels) (nodesFrom (start .args .types .now) (start .args .k) (start .args .count - start .args .k))
+          (c .if1 .taken);
+      within = tt;
+    }
 
 check-type-returns-2 : (t : ℕ) → check-type-lts.Need-returns-2 (
   type-at-reads.Asked,
@@ -151,7 +166,11 @@ check-type-returns-2 : (t : ℕ) → check-type-lts.Need-returns-2 (
 ) (check-type-at t) check-type.Post
 check-type-returns-2 t c =
     let start = c .before .before .before .before .before in
-    record { outcome = no-node (start .args .types .now) (nodeChecked (start .args .chunk .now) (start .args .edits .now) (start .args .sm5)) (start .args .inner) (start .args .levels) (start .args .k) (start .args .count) (c .if2 .taken); within = tt }
+    record {
+      outcome = no-node (start .args .types .now) (nodeChecked (start .args .chunk .now) (start .args .edits .now) (start .args .sm5))
+          (start .args .inner) (start .args .levels) (start .args .k) (start .args .count) (c .if2 .taken);
+      within = tt;
+    }
 
 check-type-type-at-requires : (t : ℕ) → check-type-lts.Need-type-at-requires (
   type-at-reads.Asked,
@@ -183,7 +202,14 @@ check-type-returns-3 : (t : ℕ) → check-type-lts.Need-returns-3 (
 ) (check-type-at t) check-type.Post
 check-type-returns-3 t c =
     let start = c .before .before .before .before .before .before .before .before in
-    record { outcome = node-fails (start .args .types .now) (nodeChecked (start .args .chunk .now) (start .args .edits .now) (start .args .sm5)) (start .args .inner) (start .args .levels) (start .args .k) (start .args .count) (c .before .before .before .before .if1 .left) (c .before .before .before .if2 .left) (sym (c .before .node-readable .ensures ∙ ap (λ (d : TypeDesc). nodeChecked (start .args .chunk .now) (start .args .edits .now) (start .args .sm5) (start .args .inner) (nodeFromTable d)) (c .before .before .type-at .ensures)) ∙ not-true (c .before .node-readable .result) (c .if3 .taken)); within = tt }
+    record {
+      outcome = node-fails (start .args .types .now) (nodeChecked (start .args .chunk .now) (start .args .edits .now) (start .args .sm5))
+          (start .args .inner) (start .args .levels) (start .args .k) (start .args .count) (c .before .before .before .before .if1 .left)
+          (c .before .before .before .if2 .left) (sym (c .before .node-readable .ensures
+          ∙ ap (λ (d : TypeDesc). nodeChecked (start .args .chunk .now) (start .args .edits .now) (start .args .sm5) (start .args .inner) (nodeFromTable d))
+          (c .before .before .type-at .ensures)) ∙ not-true (c .before .node-readable .result) (c .if3 .taken));
+      within = tt;
+    }
 
 check-type-sub-check-members : (t : ℕ) → check-type-lts.Need-sub-check-members (
   type-at-reads.Asked,
@@ -203,7 +229,9 @@ check-type-add-check-members : (t : ℕ) → check-type-lts.Need-add-check-membe
   check-members-below t,
   check-members.Post,
 ) (check-type-at t) check-type.Post
-check-type-add-check-members t c = omega (arith, c .before .before .before .if2 .left, c .before .before .before .before .before .before .before .before .fits .count)
+check-type-add-check-members t c =
+    let at-if2 = c .before .before .before in let at-fits = at-if2 .before .before .before .before .before in
+    omega (arith, at-if2 .if2 .left, at-fits .fits .count)
 
 check-type-check-members-requires : (t : ℕ) → check-type-lts.Need-check-members-requires (
   type-at-reads.Asked,
@@ -213,7 +241,9 @@ check-type-check-members-requires : (t : ℕ) → check-type-lts.Need-check-memb
   check-members-below t,
   check-members.Post,
 ) (check-type-at t) check-type.Post
-check-type-check-members-requires t c κs = (omega (arith, c .before .before .before .before .before .before .before .before .pre .0, c .before .before .before .before .if1 .left), omega (arith, c .before .before .before .if2 .left))
+check-type-check-members-requires t c κs =
+    let at-if2 = c .before .before .before in let at-if1 = at-if2 .before in let start = at-if1 .before .before .before .before in
+    (omega (arith, start .pre .0, at-if1 .if1 .left), omega (arith, at-if2 .if2 .left))
 
 check-type-returns-4 : (t : ℕ) → check-type-lts.Need-returns-4 (
   type-at-reads.Asked,
@@ -227,8 +257,15 @@ unfolding nodeFromTable
 check-type-returns-4 t c =
     let start = c .before .before .before .before .before .before .before .before .before in
     record {
-      outcome = node-passes (start .args .types .now) (nodeChecked (start .args .chunk .now) (start .args .edits .now) (start .args .sm5)) (start .args .inner) (start .args .levels) (start .args .k) (start .args .count) (c .before .before .before .before .before .if1 .left) (c .before .before .before .before .if2 .left) (sym (c .before .before .node-readable .ensures ∙ ap (λ (d : TypeDesc). nodeChecked (start .args .chunk .now) (start .args .edits .now) (start .args .sm5) (start .args .inner) (nodeFromTable d)) (c .before .before .before .type-at .ensures)) ∙ not-false (c .before .before .node-readable .result) (c .before .if3 .left))
-          ∙ ap (λ (d : TypeDesc). membersLeft (typeLeft (nodeChecked (start .args .chunk .now) (start .args .edits .now) (start .args .sm5)) true (start .args .levels - 1)) (d .«member_count») (nodesFrom (start .args .types .now) (start .args .k + 1) (start .args .count - (start .args .k + 1)))) (sym (c .before .before .before .type-at .ensures))
+      outcome = node-passes (start .args .types .now) (nodeChecked (start .args .chunk .now) (start .args .edits .now) (start .args .sm5))
+          (start .args .inner) (start .args .levels) (start .args .k) (start .args .count) (c .before .before .before .before .before .if1 .left)
+          (c .before .before .before .before .if2 .left) (sym (c .before .before .node-readable .ensures
+          ∙ ap (λ (d : TypeDesc). nodeChecked (start .args .chunk .now) (start .args .edits .now) (start .args .sm5) (start .args .inner)
+          (nodeFromTable d)) (c .before .before .before .type-at .ensures)) ∙ not-false (c .before .before .node-readable .result)
+          (c .before .if3 .left))
+          ∙ ap (λ (d : TypeDesc). membersLeft (typeLeft (nodeChecked (start .args .chunk .now) (start .args .edits .now) (start .args .sm5)) true
+          (start .args .levels - 1)) (d .«member_count») (nodesFrom (start .args .types .now) (start .args .k + 1)
+          (start .args .count - (start .args .k + 1)))) (sym (c .before .before .before .type-at .ensures))
           ∙ c .check-members .ensures .outcome;
       within = c .check-members .ensures .within;
     }

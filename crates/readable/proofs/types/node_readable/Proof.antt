@@ -7,63 +7,32 @@ use borrow.Author.Needs.{needs}
 use Rattle.readable.proofs.types.node_readable.Statement.{statement}
 use Rattle.readable.proofs.types.node_readable.Tie as tie
 
-numbers-readable-requires : tie.Need-numbers-readable-requires
-numbers-readable-requires c κs = search needs
-
-at-most-requires : tie.Need-at-most-requires
-at-most-requires c κs = search needs
-
-same-requires : tie.Need-same-requires
-same-requires c κs = search needs
-
-either-requires : tie.Need-either-requires
-either-requires c κs = search needs
-
-name-readable-requires : tie.Need-name-readable-requires
-name-readable-requires c κs = search needs
-
-name-readable-requires-2 : tie.Need-name-readable-requires-2
-name-readable-requires-2 c κs = search needs
-
-either-requires-2 : tie.Need-either-requires-2
-either-requires-2 c κs = search needs
-
-both-requires : tie.Need-both-requires
-both-requires c κs = search needs
-
-both-requires-2 : tie.Need-both-requires-2
-both-requires-2 c κs = search needs
-
-both-requires-3 : tie.Need-both-requires-3
-both-requires-3 c κs = search needs
-
-both-requires-4 : tie.Need-both-requires-4
-both-requires-4 c κs = search needs
-
 returns : tie.Need-returns
 returns c =
     let start = c .before .before .before .before .before .before .before .before .before .before .before .before .before .before .before in
     both-are (c .both4 .ensures) (c .before .before .before .before .before .before .before .before .before .before .before .before .numbers-readable .ensures)
     (both-are (c .before .both3 .ensures) (c .before .before .before .before .before .before .before .before .before .before .before .at-most .ensures)
     (both-are (c .before .before .both2 .ensures)
-    (either-is (start .args .sm5) (c .before .before .before .before .before .before .before .before .either .ensures) (c .before .before .before .before .before .before .before .before .before .same .ensures))
+    (either-is (start .args .sm5) (c .before .before .before .before .before .before .before .before .either .ensures)
+    (c .before .before .before .before .before .before .before .before .before .same .ensures))
     (both-are (c .before .before .before .both .ensures) (c .before .before .before .before .before .before .before .name-readable .ensures)
-    (either-is (not (start .args .inner)) (c .before .before .before .before .either2 .ensures) (c .before .before .before .before .before .name-readable2 .ensures)))))
+    (either-is (not (start .args .inner)) (c .before .before .before .before .either2 .ensures)
+    (c .before .before .before .before .before .name-readable2 .ensures)))))
     ∙ sym (node-tested (start .args .chunk .now) (start .args .edits .now) (start .args .sm5) (start .args .inner) (start .args .t))
 
 pub node-readable-spec : {M : Type 1} → statement M
 node-readable-spec =
     tie.close
     (tie.spec
-    numbers-readable-requires
-    at-most-requires
-    same-requires
-    either-requires
-    name-readable-requires
-    name-readable-requires-2
-    either-requires-2
-    both-requires
-    both-requires-2
-    both-requires-3
-    both-requires-4
+    (λ c κs. search needs)
+    (λ c κs. search needs)
+    (λ c κs. search needs)
+    (λ c κs. search needs)
+    (λ c κs. search needs)
+    (λ c κs. search needs)
+    (λ c κs. search needs)
+    (λ c κs. search needs)
+    (λ c κs. search needs)
+    (λ c κs. search needs)
+    (λ c κs. search needs)
     returns)

@@ -1,4 +1,5 @@
--- `variables_readable` meets its contract. The invariant of its loop: all variables use all nodes where those from i on use the nodes from k on. Assumes nothing.
+-- `variables_readable` meets its contract. The invariant of its loop: all variables use all nodes where those from i on use the nodes from k on. Assumes
+-- nothing.
 use borrow.Author.Needs.{needs}
 use mathlib.Core.Path.{_≡_, sym, ap, subst, _∙_}
 use Prim.Native.Nat.{_+_, _-_, _≤_}
@@ -10,7 +11,9 @@ use Rattle.readable.proofs.variables.variables_readable.Statement.{stat
 use Rattle.readable.proofs.variables.variables_readable.Tie as tie
 
 abbrev Inv-loop : tie.InvT-loop
-Inv-loop chunk edits sm5 table types count nodes end i₀ k₀ left₀ i k left = (variablesChecked chunk edits sm5 table types 0 count 0 nodes ≡ variablesChecked chunk edits sm5 table types i left k (end - k)) × (i + left ≡ count) × (k ≤ end)
+Inv-loop chunk edits sm5 table types count nodes end i₀ k₀ left₀ i k left =
+    (variablesChecked chunk edits sm5 table types 0 count 0 nodes ≡ variablesChecked chunk edits sm5 table types i left k (end - k)) ×
+    (i + left ≡ count) × (k ≤ end)
 
 abbrev μ-loop : tie.MeasureT-loop
 μ-loop chunk edits sm5 table types count nodes end i₀ k₀ left₀ i k left = left
@@ -18,55 +21,48 @@ abbrev μ-loop : tie.MeasureT-loop
 loop-holds : tie.Need-loop-holds Inv-loop μ-loop
 loop-holds c =
     let start = c .before .before .before .before in (
-      ap (variablesChecked (start .args .chunk .now) (start .args .edits .now) (start .args .sm5) (start .args .table .now) (start .args .types .now) 0 (start .args .count) 0) (omega arith),
+      ap (variablesChecked (start .args .chunk .now) (start .args .edits .now) (start .args .sm5) (start .args .table .now) (start .args .types .now)
+          0 (start .args .count) 0) (omega arith),
       omega arith,
       omega arith,
     )
-
-variable-at-requires : tie.Need-variable-at-requires Inv-loop μ-loop
-variable-at-requires c κs = search needs
-
-variable-readable-requires : tie.Need-variable-readable-requires Inv-loop μ-loop
-variable-readable-requires c κs = search needs
 
 returns : tie.Need-returns Inv-loop μ-loop
 returns c =
     let start = c .before .before .before .before .before .before .before .before .before in
     let turn = c .before .before .before .before in
     sym (turn .loop .inv .0
-    ∙ variable-fails (start .args .chunk .now) (start .args .edits .now) (start .args .sm5) (start .args .table .now) (start .args .types .now) (turn .loop .i) (turn .loop .left) (turn .loop .k) (start .args .nodes) (c .before .before .before .loop-test .taken) (sym (c .before .variable-readable .ensures ∙ ap (variableChecked (start .args .chunk .now) (start .args .edits .now) (start .args .sm5)) (c .before .before .variable-at .ensures)) ∙ not-true (c .before .variable-readable .result) (c .if1 .taken)))
+    ∙ variable-fails (start .args .chunk .now) (start .args .edits .now) (start .args .sm5) (start .args .table .now) (start .args .types .now)
+    (turn .loop .i) (turn .loop .left) (turn .loop .k) (start .args .nodes) (c .before .before .before .loop-test .taken)
+    (sym (c .before .variable-readable .ensures ∙ ap (variableChecked (start .args .chunk .now) (start .args .edits .now) (start .args .sm5))
+    (c .before .before .variable-at .ensures)) ∙ not-true (c .before .variable-readable .result) (c .if1 .taken)))
 
 check-type-requires : tie.Need-check-type-requires Inv-loop μ-loop
 check-type-requires c κs = c .before .before .before .before .loop .inv .2
-
-enum-told : tie.Need-enum-told Inv-loop μ-loop
-enum-told c = search needs
 
 returns-2 : tie.Need-returns-2 Inv-loop μ-loop
 returns-2 c =
     let start = c .before .before .before .before .before .before .before .before .before .before .before .before in
     let turn = c .before .before .before .before .before .before .before in
     sym (turn .loop .inv .0
-    ∙ type-fails (start .args .chunk .now) (start .args .edits .now) (start .args .sm5) (start .args .table .now) (start .args .types .now) (turn .loop .i) (turn .loop .left) (turn .loop .k) (start .args .nodes) (c .before .before .before .before .before .before .loop-test .taken) (c .before .before .check-type .ensures .outcome ∙ ap (leftBy (start .args .types .now) (start .args .nodes)) (c .enum-told .given .1)))
-
-enum-known-answer : tie.Need-enum-known-answer Inv-loop μ-loop
-enum-known-answer c = search needs
-
-add-i : tie.Need-add-i Inv-loop μ-loop
-add-i c = search needs
-
-sub-left : tie.Need-sub-left Inv-loop μ-loop
-sub-left c = search needs
-
-loop-less : tie.Need-loop-less Inv-loop μ-loop
-loop-less c = omega arith
+    ∙ type-fails (start .args .chunk .now) (start .args .edits .now) (start .args .sm5) (start .args .table .now) (start .args .types .now)
+    (turn .loop .i) (turn .loop .left) (turn .loop .k) (start .args .nodes) (c .before .before .before .before .before .before .loop-test .taken)
+    (c .before .before .check-type .ensures .outcome ∙ ap (leftBy (start .args .types .now) (start .args .nodes)) (c .enum-told .given .1)))
 
 loop-again : tie.Need-loop-again Inv-loop μ-loop
 loop-again c =
     let start = c .before .before .before .before .before .before .before .before .before .before .before .before .before in
     let turn = c .before .before .before .before .before .before .before .before in (
       turn .loop .inv .0
-          ∙ variable-passes (start .args .chunk .now) (start .args .edits .now) (start .args .sm5) (start .args .table .now) (start .args .types .now) (turn .loop .i) (turn .loop .left) (turn .loop .k) (c .before .answer .given .0 .0) (start .args .nodes) (c .before .before .before .before .before .before .before .loop-test .taken) (sym (c .before .before .before .before .before .variable-readable .ensures ∙ ap (variableChecked (start .args .chunk .now) (start .args .edits .now) (start .args .sm5)) (c .before .before .before .before .before .before .variable-at .ensures)) ∙ not-false (c .before .before .before .before .before .variable-readable .result) (c .before .before .before .before .if1 .left)) (c .before .before .before .check-type .ensures .outcome ∙ ap (leftBy (start .args .types .now) (start .args .nodes)) (c .before .answer .given .1)),
+          ∙ variable-passes (start .args .chunk .now) (start .args .edits .now) (start .args .sm5) (start .args .table .now) (start .args .types .now)
+          (turn .loop .i) (turn .loop .left) (turn .loop .k) (c .before .answer .given .0 .0) (start .args .nodes)
+          (c .before .before .before .before .before .before .before .loop-test .taken)
+          (sym (c .before .before .before .before .before .variable-readable .ensures
+          ∙ ap (variableChecked (start .args .chunk .now) (start .args .edits .now) (start .args .sm5))
+          (c .before .before .before .before .before .before .variable-at .ensures))
+          ∙ not-false (c .before .before .before .before .before .variable-readable .result) (c .before .before .before .before .if1 .left))
+          (c .before .before .before .check-type .ensures .outcome ∙ ap (leftBy (start .args .types .now) (start .args .nodes))
+          (c .before .answer .given .1)),
       omega arith,
       subst (NextWithin (start .args .nodes)) (c .before .answer .given .1) (c .before .before .before .check-type .ensures .within),
     )
@@ -76,7 +72,8 @@ returns-3 c =
     let start = c .before .before .before .before .before .before in
     let turn = c .before in
     sym (turn .loop .inv .0
-    ∙ variables-done (start .args .chunk .now) (start .args .edits .now) (start .args .sm5) (start .args .table .now) (start .args .types .now) (turn .loop .i) (turn .loop .left) (turn .loop .k) (start .args .nodes) (c .loop-test .left) (turn .loop .inv .2))
+    ∙ variables-done (start .args .chunk .now) (start .args .edits .now) (start .args .sm5) (start .args .table .now) (start .args .types .now)
+    (turn .loop .i) (turn .loop .left) (turn .loop .k) (start .args .nodes) (c .loop-test .left) (turn .loop .inv .2))
 
 pub variables-readable-spec : {M : Type 1} → statement M
 variables-readable-spec =
@@ -85,15 +82,15 @@ variables-readable-spec =
     Inv-loop
     μ-loop
     loop-holds
-    variable-at-requires
-    variable-readable-requires
+    (λ c κs. search needs)
+    (λ c κs. search needs)
     returns
     check-type-requires
-    enum-told
+    (λ c. search needs)
     returns-2
-    enum-known-answer
-    add-i
-    sub-left
-    loop-less
+    (λ c. search needs)
+    (λ c. search needs)
+    (λ c. search needs)
+    (λ c. omega arith)
     loop-again
     returns-3)

@@ -5,53 +5,32 @@ use borrow.Author.Needs.{needs}
 use Rattle.reflection.proofs.names.name_part.Statement.{statement}
 use Rattle.reflection.proofs.names.name_part.Tie as tie
 
-cast-place : tie.Need-cast-place
-cast-place c = search needs
-
-cast-length : tie.Need-cast-length
-cast-length c = search needs
-
-part-requires : tie.Need-part-requires
-part-requires c κs = search needs
-
 returns : tie.Need-returns
 returns c =
-    let a = c .before .before .before .before .before .before .before .args in
-    c .part .ensures ∙ sym (bytes-in-chunk (a .chunk .now) (a .edits .now) (a .name) (c .before .if1 .taken))
-
-part-requires-2 : tie.Need-part-requires-2
-part-requires-2 c κs = search needs
+    let at-if1 = c .before in let start = at-if1 .before .before .before .before .before .before in
+    let a = start .args in c .part .ensures ∙ sym (bytes-in-chunk (a .chunk .now) (a .edits .now) (a .name) (at-if1 .if1 .taken))
 
 returns-2 : tie.Need-returns-2
 returns-2 c =
-    let a = c .before .before .before .before .before .before .before .before .before .args in
-    c .part2 .ensures ∙ sym (bytes-in-edits (a .chunk .now) (a .edits .now) (a .name) (c .before .before .before .if1 .left) (c .before .if2 .taken))
-
-sub-result : tie.Need-sub-result
-sub-result c = search needs
-
-part-result-start : tie.Need-part-result-start
-part-result-start c = search needs
-
-part-result-end : tie.Need-part-result-end
-part-result-end c = search needs
+    let at-if2 = c .before in let at-if1 = at-if2 .before .before in let start = at-if1 .before .before .before .before .before .before in
+    let a = start .args in c .part2 .ensures ∙ sym (bytes-in-edits (a .chunk .now) (a .edits .now) (a .name) (at-if1 .if1 .left) (at-if2 .if2 .taken))
 
 returns-3 : tie.Need-returns-3
 returns-3 c =
-    let a = c .before .before .before .before .before .before .before .before .before .args in
-    sym (bytes-nowhere (a .chunk .now) (a .edits .now) (a .name) (c .before .before .before .if1 .left) (c .before .if2 .left))
+    let at-if2 = c .before in let at-if1 = at-if2 .before .before in let start = at-if1 .before .before .before .before .before .before in
+    let a = start .args in sym (bytes-nowhere (a .chunk .now) (a .edits .now) (a .name) (at-if1 .if1 .left) (at-if2 .if2 .left))
 
 pub name-part-spec : {M : Type 1} → statement M
 name-part-spec =
     tie.close
     (tie.spec
-    cast-place
-    cast-length
-    part-requires
+    (λ c. search needs)
+    (λ c. search needs)
+    (λ c κs. search needs)
     returns
-    part-requires-2
+    (λ c κs. search needs)
     returns-2
-    sub-result
-    part-result-start
-    part-result-end
+    (λ c. search needs)
+    (λ c. search needs)
+    (λ c. search needs)
     returns-3)

@@ -5,9 +5,6 @@ use borrow.Author.Needs.{needs}
 use Rattle.reflection.proofs.names.name_refusal.Statement.{statement}
 use Rattle.reflection.proofs.names.name_refusal.Tie as tie
 
-in-place-requires : tie.Need-in-place-requires
-in-place-requires c κs = search needs
-
 returns : tie.Need-returns
 returns c = ap namePlace (sym (c .if1 .taken) ∙ c .before .in-place .ensures)
 
@@ -15,4 +12,4 @@ returns-2 : tie.Need-returns-2
 returns-2 c = ap namePlace (sym (c .if1 .left) ∙ c .before .in-place .ensures)
 
 pub name-refusal-spec : {M : Type 1} → statement M
-name-refusal-spec = tie.close (tie.spec in-place-requires returns returns-2)
+name-refusal-spec = tie.close (tie.spec (λ c κs. search needs) returns returns-2)

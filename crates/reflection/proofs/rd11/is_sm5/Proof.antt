@@ -7,11 +7,8 @@ use borrow.Author.Needs.{needs}
 use Rattle.reflection.proofs.rd11.is_sm5.Statement.{statement}
 use Rattle.reflection.proofs.rd11.is_sm5.Tie as tie
 
-major-of-requires : tie.Need-major-of-requires
-major-of-requires c κs = search needs
-
 returns : tie.Need-returns
 returns c = ap (λ (m : ℕ). eqb m 5) (c .major-of .ensures) ∙ sym (sm5-is (c .before .args .def))
 
 pub is-sm5-spec : {M : Type 1} → statement M
-is-sm5-spec = tie.close (tie.spec major-of-requires returns)
+is-sm5-spec = tie.close (tie.spec (λ c κs. search needs) returns)

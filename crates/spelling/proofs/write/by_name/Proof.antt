@@ -9,12 +9,9 @@ returns : tie.Need-returns
 unfolding byName
 returns c = rw (lt-ltb 0 (c .before .before .args .t .«member_count») (c .if1 .taken))
 
-to-u32-requires : tie.Need-to-u32-requires
-to-u32-requires c κs = search needs
-
 returns-2 : tie.Need-returns-2
 unfolding byName
 returns-2 c = rw (le-ltb 0 (c .before .before .before .before .args .t .«member_count») (c .before .before .if1 .left), c .before .to-u32 .ensures)
 
 pub by-name-spec : {M : Type 1} → statement M
-by-name-spec = tie.close (tie.spec to-u32-requires returns returns-2)
+by-name-spec = tie.close (tie.spec (λ c κs. search needs) returns returns-2)

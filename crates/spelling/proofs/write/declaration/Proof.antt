@@ -1,26 +1,18 @@
 -- `declaration` meets its contract: the tests in the order of the definition, then the line, and the end of writing.
 use mathlib.Core.Path.{sym, ap, _∙_}
 use borrow.Author.Tests.{not-true, not-false}
-use Rattle.emit.proofs.Fitting.{refused-answer, refused-output, finished-answer, finished-output}
+use Rattle.text_output.proofs.Fitting.{refused-answers, finished-answers}
 use mathlib.Core.List.{List}
 use Prim.Native.Nat.{ℕ}
 use native.Mathlib.Omega.{arith}
 use lib.ListN.{length}
 use Rattle.spelling.specs.Spelling.{isSpelled, typeSpelling}
-use Rattle.emit.proofs.NameLength.{name-at-most}
-use Rattle.spelling.proofs.WriteRefusals.{declared-type-unprintable, declared-fields-unfit, declared-name-unprintable, declared-unspelled, declared-spelled}
+use Rattle.text_output.proofs.NameLength.{name-at-most}
+use Rattle.spelling.proofs.WriteRefusals.{declared-type-unprintable, declared-fields-unfit, declared-name-unprintable, declared-unspelled}
+use Rattle.spelling.proofs.WriteRefusals.{declared-spelled}
 use borrow.Author.Needs.{needs}
 use Rattle.spelling.proofs.write.declaration.Statement.{statement}
 use Rattle.spelling.proofs.write.declaration.Tie as tie
-
-printable-requires : tie.Need-printable-requires
-printable-requires c κs = search needs
-
-refuse-requires : tie.Need-refuse-requires
-refuse-requires c κs = search needs
-
-same-length : tie.Need-same-length
-same-length c = search needs
 
 returns : tie.Need-returns
 returns c =
@@ -31,17 +23,7 @@ returns c =
     let a = entry .args in
     let unprintable = sym (at-printable .printable .ensures) ∙ not-true _ (at-if1 .if1 .taken) in
     let why = declared-type-unprintable (a .chunk .now) (a .edits .now) (a .t) unprintable (a .name) in
-    let r = at-refuse .refuse .ensures in
-    (r .0 ∙ refused-answer why (a .out .now), r .1 ∙ refused-output why (a .out .now))
-
-fields-fit-requires : tie.Need-fields-fit-requires
-fields-fit-requires c κs = search needs
-
-refuse-requires-2 : tie.Need-refuse-requires-2
-refuse-requires-2 c κs = search needs
-
-same-length-2 : tie.Need-same-length-2
-same-length-2 c = search needs
+    refused-answers why (at-refuse .refuse .ensures)
 
 returns-2 : tie.Need-returns-2
 returns-2 c =
@@ -55,17 +37,7 @@ returns-2 c =
     let own = sym (at-printable .printable .ensures) ∙ not-false _ (at-if1 .if1 .left) in
     let unfit = sym (at-fields-fit .fields-fit .ensures) ∙ not-true _ (at-if2 .if2 .taken) in
     let why = declared-fields-unfit (a .chunk .now) (a .edits .now) (a .t) own (a .name) unfit in
-    let r = at-refuse2 .refuse2 .ensures in
-    (r .0 ∙ refused-answer why (a .out .now), r .1 ∙ refused-output why (a .out .now))
-
-printable-requires-2 : tie.Need-printable-requires-2
-printable-requires-2 c κs = search needs
-
-refuse-requires-3 : tie.Need-refuse-requires-3
-refuse-requires-3 c κs = search needs
-
-same-length-3 : tie.Need-same-length-3
-same-length-3 c = search needs
+    refused-answers why (at-refuse2 .refuse2 .ensures)
 
 returns-3 : tie.Need-returns-3
 returns-3 c =
@@ -82,20 +54,7 @@ returns-3 c =
     let fit = sym (at-fields-fit .fields-fit .ensures) ∙ not-false _ (at-if2 .if2 .left) in
     let unprintable = sym (at-printable2 .printable2 .ensures) ∙ not-true _ (at-if3 .if3 .taken) in
     let why = declared-name-unprintable (a .chunk .now) (a .edits .now) (a .t) own fit (a .name) unprintable in
-    let r = at-refuse3 .refuse3 .ensures in
-    (r .0 ∙ refused-answer why (a .out .now), r .1 ∙ refused-output why (a .out .now))
-
-name-part-requires : tie.Need-name-part-requires
-name-part-requires c κs = search needs
-
-has-spelling-requires : tie.Need-has-spelling-requires
-has-spelling-requires c κs = search needs
-
-refuse-requires-4 : tie.Need-refuse-requires-4
-refuse-requires-4 c κs = search needs
-
-same-length-4 : tie.Need-same-length-4
-same-length-4 c = search needs
+    refused-answers why (at-refuse3 .refuse3 .ensures)
 
 returns-4 : tie.Need-returns-4
 returns-4 c =
@@ -117,18 +76,15 @@ returns-4 c =
     let whole = sym (ap (λ (l : List ℕ). isSpelled (typeSpelling l (a .t))) (at-name-part .name-part .ensures)) in
     let tested = whole ∙ sym (at-has-spelling .has-spelling .ensures) ∙ not-true _ (at-if4 .if4 .taken) in
     let why = declared-unspelled (a .chunk .now) (a .edits .now) (a .t) own fit (a .name) named tested in
-    let r = at-refuse4 .refuse4 .ensures in
-    (r .0 ∙ refused-answer why (a .out .now), r .1 ∙ refused-output why (a .out .now))
-
-name-part-requires-2 : tie.Need-name-part-requires-2
-name-part-requires-2 c κs = search needs
+    refused-answers why (at-refuse4 .refuse4 .ensures)
 
 put-declaration-requires : tie.Need-put-declaration-requires
 put-declaration-requires c κs =
     let at-if4 = c .before .before in
     let at-has-spelling = at-if4 .before in
     let at-name-part = at-has-spelling .before in
-    let entry = at-name-part .before .before .before .before .before .before .before .before .before .before .before in
+    let at-printable = at-name-part .before .before .before .before .before .before in
+    let entry = at-printable .before .before .before .before .before in
     let a = entry .args in
     let good = entry .good in
     let of-type = name-at-most (a .chunk .now) (a .edits .now) (a .t .name) in
@@ -139,12 +95,6 @@ put-declaration-requires c κs =
       ),
       sym (at-has-spelling .has-spelling .ensures) ∙ not-false _ (at-if4 .if4 .left),
     )
-
-finish-requires : tie.Need-finish-requires
-finish-requires c κs = search needs
-
-same-length-5 : tie.Need-same-length-5
-same-length-5 c = search needs
 
 returns-5 : tie.Need-returns-5
 returns-5 c =
@@ -169,32 +119,31 @@ returns-5 c =
     let tested = whole ∙ sym (at-has-spelling .has-spelling .ensures) ∙ not-false _ (at-if4 .if4 .left) in
     let o = declared-spelled (a .chunk .now) (a .edits .now) (a .t) own fit (a .name) named tested in
     let p = rw (at-name-part .name-part .ensures, at-name-part2 .name-part2 .ensures) at (at-put-declaration .put-declaration .ensures) in
-    let f = at-finish .finish .ensures in
-    (rw o (f .0 ∙ finished-answer p), rw o (f .1 ∙ finished-output p))
+    finished-answers o p (at-finish .finish .ensures)
 
 pub declaration-spec : {M : Type 1} → statement M
 declaration-spec =
     tie.close
     (tie.spec
-    printable-requires
-    refuse-requires
-    same-length
+    (λ c κs. search needs)
+    (λ c κs. search needs)
+    (λ c. search needs)
     returns
-    fields-fit-requires
-    refuse-requires-2
-    same-length-2
+    (λ c κs. search needs)
+    (λ c κs. search needs)
+    (λ c. search needs)
     returns-2
-    printable-requires-2
-    refuse-requires-3
-    same-length-3
+    (λ c κs. search needs)
+    (λ c κs. search needs)
+    (λ c. search needs)
     returns-3
-    name-part-requires
-    has-spelling-requires
-    refuse-requires-4
-    same-length-4
+    (λ c κs. search needs)
+    (λ c κs. search needs)
+    (λ c κs. search needs)
+    (λ c. search needs)
     returns-4
-    name-part-requires-2
+    (λ c κs. search needs)
     put-declaration-requires
-    finish-requires
-    same-length-5
+    (λ c κs. search needs)
+    (λ c. search needs)
     returns-5)

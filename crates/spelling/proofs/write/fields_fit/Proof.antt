@@ -67,8 +67,10 @@ returns-4 c =
 returns-5 : tie.Need-returns-5
 unfolding fieldsFit
 returns-5 c =
-    let t = c .before .before .before .before .args .t in
-    rw (lt-ltb (t .class) u16Limit (c .before .before .if1 .taken), le-ltb (t .«var_type») u16Limit (c .if2 .left))
+    let at-if1 = c .before .before in
+    let start = at-if1 .before .before in
+    let t = start .args .t in
+    rw (lt-ltb (t .class) u16Limit (at-if1 .if1 .taken), le-ltb (t .«var_type») u16Limit (c .if2 .left))
 
 returns-6 : tie.Need-returns-6
 unfolding fieldsFit

@@ -8,10 +8,18 @@ use Rattle.spelling.proofs.write.has_base_name.Statement.{statement}
 use Rattle.spelling.proofs.write.has_base_name.Tie as tie
 
 returns : tie.Need-returns
-returns c = sym (ap (λ r. isRow (baseTypeAnswer r)) (c .enum-told .given .1)) ∙ base-named (c .before .before .before .args .base) (c .before .before .from-u32 .result) (c .before .before .from-u32 .ensures)
+returns c =
+    let at-from-u32 = c .before .before in
+    let start = at-from-u32 .before in
+    sym (ap (λ r. isRow (baseTypeAnswer r)) (c .enum-told .given .1)) ∙ base-named (start .args .base) (at-from-u32 .from-u32 .result)
+    (at-from-u32 .from-u32 .ensures)
 
 returns-2 : tie.Need-returns-2
-returns-2 c = sym (ap (λ r. isRow (baseTypeAnswer r)) (c .enum-told2 .given .1)) ∙ base-named (c .before .before .before .args .base) (c .before .before .from-u32 .result) (c .before .before .from-u32 .ensures)
+returns-2 c =
+    let at-from-u32 = c .before .before in
+    let start = at-from-u32 .before in
+    sym (ap (λ r. isRow (baseTypeAnswer r)) (c .enum-told2 .given .1)) ∙ base-named (start .args .base) (at-from-u32 .from-u32 .result)
+    (at-from-u32 .from-u32 .ensures)
 
 pub has-base-name-spec : {M : Type 1} → statement M
 has-base-name-spec =

@@ -7,21 +7,32 @@ use Rattle.spelling.proofs.write.has_spelling.Tie as tie
 
 returns : tie.Need-returns
 returns c =
-    let a = c .before .before .before .args in
-    sym (own-name-spelled (a .name .now) (a .t) (sym (c .before .by-name .ensures) ∙ c .if1 .taken))
+    let at-by-name = c .before in
+    let start = at-by-name .before .before in
+    let a = start .args in
+    sym (own-name-spelled (a .name .now) (a .t) (sym (at-by-name .by-name .ensures) ∙ c .if1 .taken))
 
 returns-2 : tie.Need-returns-2
 returns-2 c =
-    let a = c .before .before .before .before .before .before .args in
-    let numbers = sym (c .before .before .before .before .by-name .ensures) ∙ c .before .before .before .if1 .left in
-    let named = sym (c .before .before .has-base-name .ensures) ∙ c .before .if2 .taken in
+    let at-if2 = c .before in
+    let at-has-base-name = at-if2 .before in
+    let at-if1 = at-has-base-name .before in
+    let at-by-name = at-if1 .before in
+    let start = at-by-name .before .before in
+    let a = start .args in
+    let numbers = sym (at-by-name .by-name .ensures) ∙ at-if1 .if1 .left in
+    let named = sym (at-has-base-name .has-base-name .ensures) ∙ at-if2 .if2 .taken in
     c .has-dimensions .ensures ∙ sym (numbers-spelled (a .name .now) (a .t) numbers named)
 
 returns-3 : tie.Need-returns-3
 returns-3 c =
-    let a = c .before .before .before .before .before .args in
-    let numbers = sym (c .before .before .before .by-name .ensures) ∙ c .before .before .if1 .left in
-    let unnamed = sym (c .before .has-base-name .ensures) ∙ c .if2 .left in
+    let at-has-base-name = c .before in
+    let at-if1 = at-has-base-name .before in
+    let at-by-name = at-if1 .before in
+    let start = at-by-name .before .before in
+    let a = start .args in
+    let numbers = sym (at-by-name .by-name .ensures) ∙ at-if1 .if1 .left in
+    let unnamed = sym (at-has-base-name .has-base-name .ensures) ∙ c .if2 .left in
     sym (numbers-unspelled (a .name .now) (a .t) numbers unnamed)
 
 pub has-spelling-spec : {M : Type 1} → statement M

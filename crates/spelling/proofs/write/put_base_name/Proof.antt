@@ -24,12 +24,27 @@ put-base-name-spec =
     (λ c. search needs)
     (λ c κs. search needs)
     (λ c. search needs)
-    (λ c. (rw (c .before .before .before .before .before .enum-told .given .1) (c .before .before .put-bytes .ensures), omega (arith, c .before .before .put-bytes .ensures .next)))
+    (λ c. (
+      rw (c .before .before .before .before .before .enum-told .given .1) (c .before .before .put-bytes .ensures),
+      omega (arith, c .before .before .put-bytes .ensures .next),
+    ))
     (λ c. search needs)
-    (λ c. (rw (c .before .before .before .before .before .enum-told2 .given .1) (c .before .before .put-bytes2 .ensures), omega (arith, c .before .before .put-bytes2 .ensures .next)))
+    (λ c. (
+      rw (c .before .before .before .before .before .enum-told2 .given .1) (c .before .before .put-bytes2 .ensures),
+      omega (arith, c .before .before .put-bytes2 .ensures .next),
+    ))
     (λ c. search needs)
-    (λ c. (rw (c .before .before .before .before .before .enum-told3 .given .1) (c .before .before .put-bytes3 .ensures), omega (arith, c .before .before .put-bytes3 .ensures .next)))
+    (λ c. (
+      rw (c .before .before .before .before .before .enum-told3 .given .1) (c .before .before .put-bytes3 .ensures),
+      omega (arith, c .before .before .put-bytes3 .ensures .next),
+    ))
     (λ c. search needs)
-    (λ c. (rw (c .before .before .before .before .before .enum-told4 .given .1) (c .before .before .put-bytes4 .ensures), omega (arith, c .before .before .put-bytes4 .ensures .next)))
+    (λ c. (
+      rw (c .before .before .before .before .before .enum-told4 .given .1) (c .before .before .put-bytes4 .ensures),
+      omega (arith, c .before .before .put-bytes4 .ensures .next),
+    ))
     (λ c. search needs)
-    (λ c. (rw (c .before .before .before .before .before .enum-told5 .given .1) (c .before .before .put-bytes5 .ensures), omega (arith, c .before .before .put-bytes5 .ensures .next))))
+    (λ c. (
+      rw (c .before .before .before .before .before .enum-told5 .given .1) (c .before .before .put-bytes5 .ensures),
+      omega (arith, c .before .before .put-bytes5 .ensures .next),
+    )))

@@ -4,21 +4,6 @@ use borrow.Author.Needs.{needs}
 use Rattle.spelling.proofs.write.put_declaration.Statement.{statement}
 use Rattle.spelling.proofs.write.put_declaration.Tie as tie
 
-put-spelling-requires : tie.Need-put-spelling-requires
-put-spelling-requires c κs = search needs
-
-put-byte-requires : tie.Need-put-byte-requires
-put-byte-requires c κs = search needs
-
-put-bytes-requires : tie.Need-put-bytes-requires
-put-bytes-requires c κs = search needs
-
-put-byte-requires-2 : tie.Need-put-byte-requires-2
-put-byte-requires-2 c κs = search needs
-
-same-length : tie.Need-same-length
-same-length c = search needs
-
 returns : tie.Need-returns
 returns c =
     let at-put-byte2 = c .before .before in
@@ -35,9 +20,9 @@ pub put-declaration-spec : {M : Type 1} → statement M
 put-declaration-spec =
     tie.close
     (tie.spec
-    put-spelling-requires
-    put-byte-requires
-    put-bytes-requires
-    put-byte-requires-2
-    same-length
+    (λ c κs. search needs)
+    (λ c κs. search needs)
+    (λ c κs. search needs)
+    (λ c κs. search needs)
+    (λ c. search needs)
     returns)

@@ -10,16 +10,22 @@ use Rattle.spelling.proofs.write.put_dimensions.Tie as tie
 
 returns : tie.Need-returns
 returns c =
-    let a = c .before .before .before .before .before .before .before .before .before .args in
-    let known = c .before .before .before .before .before .known .given in
-    let found = sym (ap classAnswer (known .1)) ∙ c .before .before .before .before .before .before .before .from-u32 .ensures in
-    let put = c .before .before .put-class-dimensions .ensures in
+    let at-put-class-dimensions = c .before .before in
+    let at-known = at-put-class-dimensions .before .before .before in
+    let at-from-u32 = at-known .before .before in
+    let start = at-from-u32 .before .before in
+    let a = start .args in
+    let known = at-known .known .given in
+    let found = sym (ap classAnswer (known .1)) ∙ at-from-u32 .from-u32 .ensures in
+    let put = at-put-class-dimensions .put-class-dimensions .ensures in
     (rw (class-known (a .class) (a .rows) (a .columns) (known .0 .0) found) (put .0), put .1)
 
 returns-2 : tie.Need-returns-2
 returns-2 c =
-    let a = c .before .before .before .before .args in
-    let found = sym (ap classAnswer (c .enum-told .given .1)) ∙ c .before .before .from-u32 .ensures in
+    let at-from-u32 = c .before .before in
+    let start = at-from-u32 .before .before in
+    let a = start .args in
+    let found = sym (ap classAnswer (c .enum-told .given .1)) ∙ at-from-u32 .from-u32 .ensures in
     (rw (class-unknown (a .class) (a .rows) (a .columns) found) (put-none (a .out .now) (a .at)), omega arith)
 
 pub put-dimensions-spec : {M : Type 1} → statement M

@@ -7,9 +7,12 @@ use Rattle.spelling.proofs.write.put_matrix.Tie as tie
 
 returns : tie.Need-returns
 returns c =
-    let rows = c .before .before .before .before .before .before .before .before .before .before .put-decimal .ensures in
-    let x = c .before .before .before .before .before .before .put-byte .ensures in
-    let columns = c .before .before .put-decimal2 .ensures in
+    let at-columns = c .before .before in
+    let at-x = at-columns .before .before .before .before in
+    let at-rows = at-x .before .before .before .before in
+    let rows = at-rows .put-decimal .ensures in
+    let x = at-x .put-byte .ensures in
+    let columns = at-columns .put-decimal2 .ensures in
     (put-then (rows .0) (put-then x (columns .0)), omega (arith, rows .1, x .next, columns .1))
 
 pub put-matrix-spec : {M : Type 1} → statement M

@@ -7,15 +7,6 @@ use borrow.Author.Needs.{needs}
 use Rattle.spelling.proofs.write.put_spelling.Statement.{statement}
 use Rattle.spelling.proofs.write.put_spelling.Tie as tie
 
-by-name-requires : tie.Need-by-name-requires
-by-name-requires c κs = search needs
-
-put-bytes-requires : tie.Need-put-bytes-requires
-put-bytes-requires c κs = search needs
-
-same-length : tie.Need-same-length
-same-length c = search needs
-
 returns : tie.Need-returns
 returns c =
     let at-put-bytes = c .before .before in
@@ -25,18 +16,6 @@ returns c =
     let a = entry .args in
     let p = at-put-bytes .put-bytes .ensures in
     (rw (own-name-bytes (a .name .now) (a .t) (sym (at-by-name .by-name .ensures) ∙ at-if1 .if1 .taken)) p, omega (arith, p .next))
-
-put-base-requires : tie.Need-put-base-requires
-put-base-requires c κs = search needs
-
-put-dimensions-requires : tie.Need-put-dimensions-requires
-put-dimensions-requires c κs = search needs
-
-put-suffix-requires : tie.Need-put-suffix-requires
-put-suffix-requires c κs = search needs
-
-same-length-2 : tie.Need-same-length-2
-same-length-2 c = search needs
 
 returns-2 : tie.Need-returns-2
 returns-2 c =
@@ -58,12 +37,12 @@ pub put-spelling-spec : {M : Type 1} → statement M
 put-spelling-spec =
     tie.close
     (tie.spec
-    by-name-requires
-    put-bytes-requires
-    same-length
+    (λ c κs. search needs)
+    (λ c κs. search needs)
+    (λ c. search needs)
     returns
-    put-base-requires
-    put-dimensions-requires
-    put-suffix-requires
-    same-length-2
+    (λ c κs. search needs)
+    (λ c κs. search needs)
+    (λ c κs. search needs)
+    (λ c. search needs)
     returns-2)

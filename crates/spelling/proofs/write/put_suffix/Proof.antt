@@ -13,18 +13,6 @@ returns c =
     let a = c .before .before .args in
     (rw (eq-eqb (a .elements) 0 (c .if1 .taken)) (put-none (a .out .now) (a .at)), omega arith)
 
-put-byte-requires : tie.Need-put-byte-requires
-put-byte-requires c κs = search needs
-
-put-decimal-requires : tie.Need-put-decimal-requires
-put-decimal-requires c κs = search needs
-
-put-byte-requires-2 : tie.Need-put-byte-requires-2
-put-byte-requires-2 c κs = search needs
-
-same-length : tie.Need-same-length
-same-length c = search needs
-
 returns-2 : tie.Need-returns-2
 unfolding arraySuffix
 returns-2 c =
@@ -36,16 +24,19 @@ returns-2 c =
     let a = entry .args in
     let opened = at-put-byte .put-byte .ensures in
     let counted = at-put-decimal .put-decimal .ensures in
-    let closed = at-put-byte2 .put-byte2 .ensures in
-    (rw (ne-eqb (a .elements) 0 (at-if1 .if1 .left)) (put-then opened (put-then (counted .0) closed)), omega (arith, opened .next, counted .1, closed .next))
+    let closed = at-put-byte2 .put-byte2 .ensures in (
+      rw (ne-eqb (a .elements) 0 (at-if1 .if1 .left)) (put-then opened (put-then (counted .0) closed)),
+      omega
+          (arith, opened .next, counted .1, closed .next),
+    )
 
 pub put-suffix-spec : {M : Type 1} → statement M
 put-suffix-spec =
     tie.close
     (tie.spec
     returns
-    put-byte-requires
-    put-decimal-requires
-    put-byte-requires-2
-    same-length
+    (λ c κs. search needs)
+    (λ c κs. search needs)
+    (λ c κs. search needs)
+    (λ c. search needs)
     returns-2)

@@ -5,17 +5,8 @@ use borrow.Author.Needs.{needs}
 use Rattle.words.proofs.tests.one_of.Statement.{statement}
 use Rattle.words.proofs.tests.one_of.Tie as tie
 
-same-requires : tie.Need-same-requires
-same-requires c κs = search needs
-
-same-requires-2 : tie.Need-same-requires-2
-same-requires-2 c κs = search needs
-
-either-requires : tie.Need-either-requires
-either-requires c κs = search needs
-
 returns : tie.Need-returns
 returns c = c .either .ensures ∙ λ i. c .before .before .same .ensures i || c .before .same2 .ensures i
 
 pub one-of-spec : {M : Type 1} → statement M
-one-of-spec = tie.close (tie.spec same-requires same-requires-2 either-requires returns)
+one-of-spec = tie.close (tie.spec (λ c κs. search needs) (λ c κs. search needs) (λ c κs. search needs) returns)

@@ -67,4 +67,6 @@ unfolding lookup inputTypes
 returns-15 c = sym (not-found inputTypes (c .before .args .v) (c .match .rest))
 
 pub from-u32-spec : {M : Type 1} → statement M
-from-u32-spec = tie.close (tie.spec returns returns-2 returns-3 returns-4 returns-5 returns-6 returns-7 returns-8 returns-9 returns-10 returns-11 returns-12 returns-13 returns-14 returns-15)
+from-u32-spec =
+    tie.close (tie.spec returns returns-2 returns-3 returns-4 returns-5 returns-6 returns-7 returns-8 returns-9 returns-10 returns-11 returns-12
+    returns-13 returns-14 returns-15)

@@ -1,3 +1,0 @@
-pub mod Digits
-pub mod Fitting
-pub mod NameLength

@@ -1,5 +1,0 @@
-pub mod Written
-pub mod Cursor
-pub mod Digits
-pub mod Ascii
-pub mod Printable

@@ -1,2 +1,0 @@
-pub mod HiddenEnding
-pub mod Outputs

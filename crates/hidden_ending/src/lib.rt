@@ -1,1 +1,0 @@
-// What two evenings have alike (specs/HiddenEnding.antt); no code.

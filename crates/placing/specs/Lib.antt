@@ -1,5 +1,0 @@
-pub mod Ran
-pub mod Scratch
-pub mod Bytes
-pub mod Pooling
-pub mod InScratch

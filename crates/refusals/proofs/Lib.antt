@@ -1,2 +1,0 @@
-mod Beyond
-pub mod Lengths

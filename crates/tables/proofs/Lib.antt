@@ -1,0 +1,13 @@
+pub mod Records
+pub mod Rows
+pub mod Joined
+pub mod Levels
+pub mod Nodes
+pub mod Decode
+pub mod Cases
+pub mod Options
+pub mod RecordLists
+pub mod Trees
+pub mod TypeDecoded
+pub mod Decoded
+pub mod TableOrder

@@ -1,0 +1,2 @@
+pub mod Noninterference
+pub mod Outputs

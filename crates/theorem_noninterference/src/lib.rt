@@ -1,0 +1,1 @@
+// What two reflections have alike (specs/Noninterference.antt); no code.

@@ -1,8 +1,0 @@
--- What the proofs of several functions use.
-mod Members
-mod Types
-mod Path
-mod Names
-pub mod Table
-mod MembersWalk
-mod TypeWalk

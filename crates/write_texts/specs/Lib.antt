@@ -1,0 +1,5 @@
+pub mod Simulates
+pub mod Scratch
+pub mod Bytes
+pub mod PlacedInPool
+pub mod PlacedInScratch
