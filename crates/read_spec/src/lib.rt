@@ -1,4 +1,4 @@
-// The definition of reading stands in specs/; the code that meets it is in read_types, read_tables and reader, whose walks answer alike.
+// The definition of reading stands in specs/; the code that meets it is in read_types, read_tables and read, whose walks answer alike.
 use reflection::Refusal;
 
 // A number of records for each table: how many it has, or how many it can take.

@@ -85,7 +85,7 @@ pub record Side : Type 0 where
   pub read-number : ℕ
   pub reading : wrote .number ≡ 0 → ParseCall (take (getD (wrote .length) 0 0) (wrote .out)) found-before found read-number
 
--- The same as for the functions of crates write and reader.
+-- The same as for the functions of crates write and read.
 abbrev pub lentBy : Side → Lent
 lentBy s =
     lent (s .given .chunk) (s .given .edits) (headerAt (s .given .header)) (s .given .bindings) (s .given .buffers) (s .given .variables)
