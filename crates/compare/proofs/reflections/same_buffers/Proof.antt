@@ -46,7 +46,8 @@ loop-holds c =
             (
               refl,
               equal-start (sameBuffer (sameName (args-at .chunk .now) (args-at .edits .now))
-                  (sameName (args-at .chunk .now) (args-at .edits .now))) (bufferInTable (args-at .buffers .now) (args-at .variables .now) (args-at .types .now))
+                  (sameName (args-at .chunk .now) (args-at .edits .now))) (bufferInTable (args-at .buffers .now) (args-at .variables .now)
+                  (args-at .types .now))
                   (bufferInTable (args-at .other-buffers .now) (args-at .other-variables .now) (args-at .other-types .now)) 0 (args-at .count),
             ),
           ),

@@ -8,17 +8,16 @@ use Rattle.readable.proofs.bindings.binding_readable.Tie as tie
 
 returns : tie.Need-returns
 returns c =
-    let start = c .before .before .before .before .before .before .before .before .before .before .before .before .before .before .before .before in
-    both-are (c .both5 .ensures) (c .before .name-readable .ensures)
-    (both-are (c .before .before .before .both4 .ensures) (c .before .before .before .before .before .before .is-known .ensures)
-    (both-are (c .before .before .before .before .both3 .ensures) (c .before .before .before .before .before .is-known2 .ensures)
-    (both-are (c .before .before .before .before .before .before .before .both2 .ensures)
-    (c .before .before .before .before .before .before .before .before .allowed .ensures)
-    (either-is (start .args .wide) (c .before .before .before .before .before .before .before .before .before .either .ensures)
-    (both-are (c .before .before .before .before .before .before .before .before .before .before .both .ensures)
-    (c .before .before .before .before .before .before .before .before .before .before .before .before .same .ensures)
-    (c .before .before .before .before .before .before .before .before .before .before .before .same2 .ensures))))))
-    ∙ sym (binding-tested (start .args .chunk .now) (start .args .edits .now) (start .args .wide) (start .args .b))
+    let at-name-readable = c .before in let at-both4 = at-name-readable .before .before in let at-both3 = at-both4 .before in
+    let at-is-known2 = at-both3 .before in let at-is-known = at-is-known2 .before in let at-both2 = at-is-known .before in
+    let at-allowed = at-both2 .before in let at-either = at-allowed .before in let at-both = at-either .before in let at-same2 = at-both .before in
+    let at-same = at-same2 .before in let start = at-same .before .before .before .before in
+    both-are (c .both5 .ensures) (at-name-readable .name-readable .ensures)
+    (both-are (at-both4 .both4 .ensures) (at-is-known .is-known .ensures)
+    (both-are (at-both3 .both3 .ensures) (at-is-known2 .is-known2 .ensures)
+    (both-are (at-both2 .both2 .ensures) (at-allowed .allowed .ensures)
+    (either-is (start .args .wide) (at-either .either .ensures) (both-are (at-both .both .ensures) (at-same .same .ensures)
+    (at-same2 .same2 .ensures)))))) ∙ sym (binding-tested (start .args .chunk .now) (start .args .edits .now) (start .args .wide) (start .args .b))
 
 pub binding-readable-spec : {M : Type 1} → statement M
 binding-readable-spec =

@@ -22,24 +22,24 @@ loop-holds c = (refl, omega arith)
 
 returns : tie.Need-returns Inv-loop μ-loop
 returns c =
-    let start = c .before .before .before .before .before .before .before .before in
-    let turn = c .before .before .before .before in
-    sym (turn .loop .inv .0
-    ∙ bindings-next (start .args .chunk .now) (start .args .edits .now) (start .args .wide) (start .args .table .now) (turn .loop .i)
-    (turn .loop .left) (c .before .before .before .loop-test .taken)
-    ∙ both-fails _ _ (sym (c .before .binding-readable .ensures ∙ ap (bindingChecked (start .args .chunk .now) (start .args .edits .now)
-    (start .args .wide)) (c .before .before .binding-at .ensures)) ∙ not-true (c .before .binding-readable .result) (c .if1 .taken)))
+    let at-binding-readable = c .before in let at-binding-at = at-binding-readable .before in let at-loop-test = at-binding-at .before in
+    let start = at-loop-test .before .before .before .before .before in
+    let turn = at-loop-test .before in sym (turn .loop .inv .0 ∙ bindings-next (start .args .chunk .now) (start .args .edits .now) (start .args .wide)
+    (start .args .table .now) (turn .loop .i) (turn .loop .left) (at-loop-test .loop-test .taken)
+    ∙ both-fails _ _ (sym (at-binding-readable .binding-readable .ensures
+    ∙ ap (bindingChecked (start .args .chunk .now) (start .args .edits .now) (start .args .wide)) (at-binding-at .binding-at .ensures))
+    ∙ not-true (at-binding-readable .binding-readable .result) (c .if1 .taken)))
 
 loop-again : tie.Need-loop-again Inv-loop μ-loop
 loop-again c =
-    let start = c .before .before .before .before .before .before .before .before in
-    let turn = c .before .before .before .before in (
-      turn .loop .inv .0
-          ∙ bindings-next (start .args .chunk .now) (start .args .edits .now) (start .args .wide) (start .args .table .now) (turn .loop .i)
-          (turn .loop .left) (c .before .before .before .loop-test .taken)
-          ∙ both-goes-on _ _ (sym (c .before .binding-readable .ensures ∙ ap
-          (bindingChecked (start .args .chunk .now) (start .args .edits .now) (start .args .wide)) (c .before .before .binding-at .ensures))
-          ∙ not-false (c .before .binding-readable .result) (c .if1 .left)),
+    let at-binding-readable = c .before in let at-binding-at = at-binding-readable .before in let at-loop-test = at-binding-at .before in
+    let start = at-loop-test .before .before .before .before .before in
+    let turn = at-loop-test .before in (
+      turn .loop .inv .0 ∙ bindings-next (start .args .chunk .now) (start .args .edits .now) (start .args .wide)
+          (start .args .table .now) (turn .loop .i) (turn .loop .left) (at-loop-test .loop-test .taken)
+          ∙ both-goes-on _ _ (sym (at-binding-readable .binding-readable .ensures
+          ∙ ap (bindingChecked (start .args .chunk .now) (start .args .edits .now) (start .args .wide)) (at-binding-at .binding-at .ensures))
+          ∙ not-false (at-binding-readable .binding-readable .result) (c .if1 .left)),
       omega arith,
     )
 

@@ -21,36 +21,32 @@ loop-holds c = (refl, omega arith)
 
 returns : tie.Need-returns Inv-loop μ-loop
 returns c =
-    let start = c .before .before .before .before .before .before .before .before .before in
-    let turn = c .before .before .before .before .before in
-    sym (turn .loop .inv .0
-    ∙ buffer-name-fails (start .args .chunk .now) (start .args .edits .now) (start .args .table .now) (turn .loop .i) (turn .loop .left)
-    (turn .loop .rest) (c .before .before .before .buffer-at .result) (c .before .before .before .before .loop-test .taken)
-    (c .before .before .before .buffer-at .ensures) (sym (c .before .name-readable .ensures) ∙ not-true (c .before .name-readable .result)
+    let at-name-readable = c .before in let at-buffer-at = at-name-readable .before .before in let at-loop-test = at-buffer-at .before in
+    let start = at-loop-test .before .before .before .before .before in
+    let turn = at-loop-test .before in sym (turn .loop .inv .0 ∙ buffer-name-fails (start .args .chunk .now) (start .args .edits .now)
+    (start .args .table .now) (turn .loop .i) (turn .loop .left) (turn .loop .rest) (at-buffer-at .buffer-at .result) (at-loop-test .loop-test .taken)
+    (at-buffer-at .buffer-at .ensures) (sym (at-name-readable .name-readable .ensures) ∙ not-true (at-name-readable .name-readable .result)
     (c .if1 .taken)))
 
 returns-2 : tie.Need-returns-2 Inv-loop μ-loop
 returns-2 c =
-    let start = c .before .before .before .before .before .before .before .before .before .before .before in
-    let turn = c .before .before .before .before .before .before .before in
-    sym (turn .loop .inv .0
-    ∙ buffer-count-fails (start .args .chunk .now) (start .args .edits .now) (start .args .table .now) (turn .loop .i) (turn .loop .left)
-    (turn .loop .rest) (c .before .before .before .before .before .buffer-at .result)
-    (c .before .before .before .before .before .before .loop-test .taken) (c .before .before .before .before .before .buffer-at .ensures)
-    (sym (c .before .before .before .name-readable .ensures) ∙ not-false (c .before .before .before .name-readable .result)
-    (c .before .before .if1 .left)) (c .if2 .taken))
+    let at-if1 = c .before .before in let at-name-readable = at-if1 .before in let at-buffer-at = at-name-readable .before .before in
+    let at-loop-test = at-buffer-at .before in let start = at-loop-test .before .before .before .before .before in
+    let turn = at-loop-test .before in sym (turn .loop .inv .0 ∙ buffer-count-fails (start .args .chunk .now) (start .args .edits .now)
+    (start .args .table .now) (turn .loop .i) (turn .loop .left) (turn .loop .rest) (at-buffer-at .buffer-at .result) (at-loop-test .loop-test .taken)
+    (at-buffer-at .buffer-at .ensures) (sym (at-name-readable .name-readable .ensures) ∙ not-false (at-name-readable .name-readable .result)
+    (at-if1 .if1 .left)) (c .if2 .taken))
 
 loop-again : tie.Need-loop-again Inv-loop μ-loop
 loop-again c =
-    let start = c .before .before .before .before .before .before .before .before .before .before .before .before in
-    let turn = c .before .before .before .before .before .before .before .before in (
-      turn .loop .inv .0
-          ∙ buffer-passes (start .args .chunk .now) (start .args .edits .now) (start .args .table .now) (turn .loop .i) (turn .loop .left)
-          (turn .loop .rest) (c .before .before .before .before .before .before .buffer-at .result)
-          (c .before .before .before .before .before .before .before .loop-test .taken)
-          (c .before .before .before .before .before .before .buffer-at .ensures)
-          (sym (c .before .before .before .before .name-readable .ensures) ∙ not-false (c .before .before .before .before .name-readable .result)
-          (c .before .before .before .if1 .left)) (c .before .if2 .left),
+    let at-if2 = c .before in let at-if1 = at-if2 .before .before in let at-name-readable = at-if1 .before in
+    let at-buffer-at = at-name-readable .before .before in let at-loop-test = at-buffer-at .before in
+    let start = at-loop-test .before .before .before .before .before in
+    let turn = at-loop-test .before in (
+      turn .loop .inv .0 ∙ buffer-passes (start .args .chunk .now) (start .args .edits .now)
+          (start .args .table .now) (turn .loop .i) (turn .loop .left) (turn .loop .rest) (at-buffer-at .buffer-at .result) (at-loop-test .loop-test .taken)
+          (at-buffer-at .buffer-at .ensures) (sym (at-name-readable .name-readable .ensures) ∙ not-false (at-name-readable .name-readable .result)
+          (at-if1 .if1 .left)) (at-if2 .if2 .left),
       omega arith,
     )
 

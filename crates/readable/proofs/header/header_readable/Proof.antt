@@ -18,11 +18,12 @@ returns-2 c =
 
 returns-3 : tie.Need-returns-3
 returns-3 c =
-    let start = c .before .before .before .before .before .before .before .before .before .before in
-    both-are (c .both2 .ensures) (c .before .before .before .before .before .rd11-absent .ensures)
-    (both-are (c .before .both .ensures) (c .before .before .before .before .version-readable .ensures) (c .before .before .name-readable .ensures))
-    ∙ sym (lengths-fit (start .args .chunk .now) (start .args .edits .now) (start .args .def)
-    (c .before .before .before .before .before .before .before .if1 .left) (c .before .before .before .before .before .before .if2 .left))
+    let at-both = c .before in let at-name-readable = at-both .before in let at-version-readable = at-name-readable .before .before in
+    let at-rd11-absent = at-version-readable .before in let at-if2 = at-rd11-absent .before in let at-if1 = at-if2 .before in
+    let start = at-if1 .before .before .before in
+    both-are (c .both2 .ensures) (at-rd11-absent .rd11-absent .ensures)
+    (both-are (at-both .both .ensures) (at-version-readable .version-readable .ensures) (at-name-readable .name-readable .ensures))
+    ∙ sym (lengths-fit (start .args .chunk .now) (start .args .edits .now) (start .args .def) (at-if1 .if1 .left) (at-if2 .if2 .left))
 
 pub header-readable-spec : {M : Type 1} → statement M
 header-readable-spec =

@@ -13,9 +13,9 @@ returns c =
 
 returns-2 : tie.Need-returns-2
 returns-2 c =
-    let start = c .before .before .before .before .before .before .before .before .before in
-    c .part-readable2 .ensures
-    ∙ sym (name-in-edits (start .args .chunk .now) (start .args .edits .now) (start .args .name) (c .before .before .before .if1 .left) (c .before .if2 .taken))
+    let at-if2 = c .before in let at-if1 = at-if2 .before .before in let start = at-if1 .before .before .before .before .before .before in
+    c .part-readable2 .ensures ∙ sym (name-in-edits (start .args .chunk .now) (start .args .edits .now) (start .args .name) (at-if1 .if1 .left)
+    (at-if2 .if2 .taken))
 
 returns-3 : tie.Need-returns-3
 returns-3 c =

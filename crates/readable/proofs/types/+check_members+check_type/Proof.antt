@@ -80,14 +80,14 @@ check-members-returns : (t : ℕ) → check-members-lts.Need-returns (
   check-type.Post,
 ) (check-members-at t) check-members.Post check-members-Inv-loop check-members-μ-loop
 check-members-returns t c =
-    let start = c .before .before .before .before .before .before .before .before in
-    let turn = c .before .before .before .before in
-    record {
+    let at-check-type = c .before .before in let at-loop-test = at-check-type .before in
+    let start = at-loop-test .before .before .before .before .before in
+    let turn = at-loop-test .before in record {
       outcome = turn .loop .inv .0
           ∙ member-fails (typeLeft (nodeChecked (start .args .chunk .now) (start .args .edits .now) (start .args .sm5)) true (start .args .levels))
           (turn .loop .left) (nodesFrom (start .args .types .now) (turn .loop .next) (start .args .count - turn .loop .next))
-          (c .before .before .before .loop-test .taken) (c .before .before .check-type .ensures .outcome
-          ∙ ap (leftBy (start .args .types .now) (start .args .count)) (c .enum-told .given .1));
+          (at-loop-test .loop-test .taken) (at-check-type .check-type .ensures .outcome ∙ ap (leftBy (start .args .types .now) (start .args .count))
+          (c .enum-told .given .1));
       within = tt;
     }
 
@@ -114,15 +114,17 @@ check-members-loop-again : (t : ℕ) → check-members-lts.Need-loop-again (
   check-type.Post,
 ) (check-members-at t) check-members.Post check-members-Inv-loop check-members-μ-loop
 check-members-loop-again t c =
-    let start = c .before .before .before .before .before .before .before .before .before in
-    let turn = c .before .before .before .before .before in (
-      turn .loop .inv .0
-          ∙ member-passes (typeLeft (nodeChecked (start .args .chunk .now) (start .args .edits .now) (start .args .sm5)) true (start .args .levels))
-          (turn .loop .left) (nodesFrom (start .args .types .now) (turn .loop .next) (start .args .count - turn .loop .next))
-          (nodesFrom (start .args .types .now) (c .before .answer .given .0 .0) (start .args .count - c .before .answer .given .0 .0))
-          (c .before .before .before .before .loop-test .taken) (c .before .before .before .check-type .ensures .outcome
-          ∙ ap (leftBy (start .args .types .now) (start .args .count)) (c .before .answer .given .1)),
-      subst (NextWithin (start .args .count)) (c .before .answer .given .1) (c .before .before .before .check-type .ensures .within),
+    let at-answer = c .before in let at-check-type = at-answer .before .before in let at-loop-test = at-check-type .before in
+    let start = at-loop-test .before .before .before .before .before in
+    let turn = at-loop-test .before in (
+      turn .loop .inv .0 ∙ member-passes
+          (typeLeft (nodeChecked (start .args .chunk .now) (start .args .edits .now) (start .args .sm5)) true (start .args .levels)) (turn .loop .left)
+          (nodesFrom (start .args .types .now) (turn .loop .next) (start .args .count - turn .loop .next))
+          (nodesFrom (start .args .types .now) (at-answer .answer .given .0 .0) (start .args .count - at-answer .answer .given .0 .0))
+          (at-loop-test .loop-test .taken) (at-check-type .check-type .ensures .outcome ∙ ap (leftBy (start .args .types .now) (start .args .count))
+          (at-answer .answer .given .1)),
+      subst (NextWithin (start .args .count)) (at-answer .answer .given .1)
+          (at-check-type .check-type .ensures .within),
     )
 
 check-members-returns-2 : (t : ℕ) → check-members-lts.Need-returns-2 (
@@ -201,13 +203,14 @@ check-type-returns-3 : (t : ℕ) → check-type-lts.Need-returns-3 (
   check-members.Post,
 ) (check-type-at t) check-type.Post
 check-type-returns-3 t c =
-    let start = c .before .before .before .before .before .before .before .before in
+    let at-node-readable = c .before in let at-type-at = at-node-readable .before in let at-if2 = at-type-at .before in let at-if1 = at-if2 .before in
+    let start = at-if1 .before .before .before .before in
     record {
       outcome = node-fails (start .args .types .now) (nodeChecked (start .args .chunk .now) (start .args .edits .now) (start .args .sm5))
-          (start .args .inner) (start .args .levels) (start .args .k) (start .args .count) (c .before .before .before .before .if1 .left)
-          (c .before .before .before .if2 .left) (sym (c .before .node-readable .ensures
-          ∙ ap (λ (d : TypeDesc). nodeChecked (start .args .chunk .now) (start .args .edits .now) (start .args .sm5) (start .args .inner) (nodeFromTable d))
-          (c .before .before .type-at .ensures)) ∙ not-true (c .before .node-readable .result) (c .if3 .taken));
+          (start .args .inner) (start .args .levels) (start .args .k) (start .args .count) (at-if1 .if1 .left) (at-if2 .if2 .left)
+          (sym (at-node-readable .node-readable .ensures ∙ ap (λ (d : TypeDesc). nodeChecked (start .args .chunk .now) (start .args .edits .now)
+          (start .args .sm5) (start .args .inner) (nodeFromTable d)) (at-type-at .type-at .ensures)) ∙ not-true (at-node-readable .node-readable .result)
+          (c .if3 .taken));
       within = tt;
     }
 
@@ -255,17 +258,16 @@ check-type-returns-4 : (t : ℕ) → check-type-lts.Need-returns-4 (
 ) (check-type-at t) check-type.Post
 unfolding nodeFromTable
 check-type-returns-4 t c =
-    let start = c .before .before .before .before .before .before .before .before .before in
+    let at-if3 = c .before in let at-node-readable = at-if3 .before in let at-type-at = at-node-readable .before in let at-if2 = at-type-at .before in
+    let at-if1 = at-if2 .before in let start = at-if1 .before .before .before .before in
     record {
       outcome = node-passes (start .args .types .now) (nodeChecked (start .args .chunk .now) (start .args .edits .now) (start .args .sm5))
-          (start .args .inner) (start .args .levels) (start .args .k) (start .args .count) (c .before .before .before .before .before .if1 .left)
-          (c .before .before .before .before .if2 .left) (sym (c .before .before .node-readable .ensures
-          ∙ ap (λ (d : TypeDesc). nodeChecked (start .args .chunk .now) (start .args .edits .now) (start .args .sm5) (start .args .inner)
-          (nodeFromTable d)) (c .before .before .before .type-at .ensures)) ∙ not-false (c .before .before .node-readable .result)
-          (c .before .if3 .left))
-          ∙ ap (λ (d : TypeDesc). membersLeft (typeLeft (nodeChecked (start .args .chunk .now) (start .args .edits .now) (start .args .sm5)) true
-          (start .args .levels - 1)) (d .«member_count») (nodesFrom (start .args .types .now) (start .args .k + 1)
-          (start .args .count - (start .args .k + 1)))) (sym (c .before .before .before .type-at .ensures))
+          (start .args .inner) (start .args .levels) (start .args .k) (start .args .count) (at-if1 .if1 .left) (at-if2 .if2 .left)
+          (sym (at-node-readable .node-readable .ensures ∙ ap (λ (d : TypeDesc). nodeChecked (start .args .chunk .now) (start .args .edits .now)
+          (start .args .sm5) (start .args .inner) (nodeFromTable d)) (at-type-at .type-at .ensures)) ∙ not-false (at-node-readable .node-readable .result)
+          (at-if3 .if3 .left)) ∙ ap (λ (d : TypeDesc). membersLeft (typeLeft
+          (nodeChecked (start .args .chunk .now) (start .args .edits .now) (start .args .sm5)) true (start .args .levels - 1)) (d .«member_count»)
+          (nodesFrom (start .args .types .now) (start .args .k + 1) (start .args .count - (start .args .k + 1)))) (sym (at-type-at .type-at .ensures))
           ∙ c .check-members .ensures .outcome;
       within = c .check-members .ensures .within;
     }

@@ -9,15 +9,15 @@ use Rattle.readable.proofs.types.node_readable.Tie as tie
 
 returns : tie.Need-returns
 returns c =
-    let start = c .before .before .before .before .before .before .before .before .before .before .before .before .before .before .before in
-    both-are (c .both4 .ensures) (c .before .before .before .before .before .before .before .before .before .before .before .before .numbers-readable .ensures)
-    (both-are (c .before .both3 .ensures) (c .before .before .before .before .before .before .before .before .before .before .before .at-most .ensures)
-    (both-are (c .before .before .both2 .ensures)
-    (either-is (start .args .sm5) (c .before .before .before .before .before .before .before .before .either .ensures)
-    (c .before .before .before .before .before .before .before .before .before .same .ensures))
-    (both-are (c .before .before .before .both .ensures) (c .before .before .before .before .before .before .before .name-readable .ensures)
-    (either-is (not (start .args .inner)) (c .before .before .before .before .either2 .ensures)
-    (c .before .before .before .before .before .name-readable2 .ensures)))))
+    let at-both3 = c .before in let at-both2 = at-both3 .before in let at-both = at-both2 .before in let at-either2 = at-both .before in
+    let at-name-readable2 = at-either2 .before in let at-name-readable = at-name-readable2 .before .before in
+    let at-either = at-name-readable .before in let at-same = at-either .before in let at-at-most = at-same .before .before in
+    let at-numbers-readable = at-at-most .before in let start = at-numbers-readable .before .before .before in
+    both-are (c .both4 .ensures) (at-numbers-readable .numbers-readable .ensures)
+    (both-are (at-both3 .both3 .ensures) (at-at-most .at-most .ensures)
+    (both-are (at-both2 .both2 .ensures) (either-is (start .args .sm5) (at-either .either .ensures) (at-same .same .ensures))
+    (both-are (at-both .both .ensures) (at-name-readable .name-readable .ensures)
+    (either-is (not (start .args .inner)) (at-either2 .either2 .ensures) (at-name-readable2 .name-readable2 .ensures)))))
     ∙ sym (node-tested (start .args .chunk .now) (start .args .edits .now) (start .args .sm5) (start .args .inner) (start .args .t))
 
 pub node-readable-spec : {M : Type 1} → statement M

@@ -29,42 +29,40 @@ loop-holds c =
 
 returns : tie.Need-returns Inv-loop μ-loop
 returns c =
-    let start = c .before .before .before .before .before .before .before .before .before in
-    let turn = c .before .before .before .before in
-    sym (turn .loop .inv .0
-    ∙ variable-fails (start .args .chunk .now) (start .args .edits .now) (start .args .sm5) (start .args .table .now) (start .args .types .now)
-    (turn .loop .i) (turn .loop .left) (turn .loop .k) (start .args .nodes) (c .before .before .before .loop-test .taken)
-    (sym (c .before .variable-readable .ensures ∙ ap (variableChecked (start .args .chunk .now) (start .args .edits .now) (start .args .sm5))
-    (c .before .before .variable-at .ensures)) ∙ not-true (c .before .variable-readable .result) (c .if1 .taken)))
+    let at-variable-readable = c .before in let at-variable-at = at-variable-readable .before in let at-loop-test = at-variable-at .before in
+    let start = at-loop-test .before .before .before .before .before .before in
+    let turn = at-loop-test .before in sym (turn .loop .inv .0 ∙ variable-fails (start .args .chunk .now) (start .args .edits .now) (start .args .sm5)
+    (start .args .table .now) (start .args .types .now) (turn .loop .i) (turn .loop .left) (turn .loop .k) (start .args .nodes)
+    (at-loop-test .loop-test .taken) (sym (at-variable-readable .variable-readable .ensures
+    ∙ ap (variableChecked (start .args .chunk .now) (start .args .edits .now) (start .args .sm5)) (at-variable-at .variable-at .ensures))
+    ∙ not-true (at-variable-readable .variable-readable .result) (c .if1 .taken)))
 
 check-type-requires : tie.Need-check-type-requires Inv-loop μ-loop
 check-type-requires c κs = c .before .before .before .before .loop .inv .2
 
 returns-2 : tie.Need-returns-2 Inv-loop μ-loop
 returns-2 c =
-    let start = c .before .before .before .before .before .before .before .before .before .before .before .before in
-    let turn = c .before .before .before .before .before .before .before in
-    sym (turn .loop .inv .0
-    ∙ type-fails (start .args .chunk .now) (start .args .edits .now) (start .args .sm5) (start .args .table .now) (start .args .types .now)
-    (turn .loop .i) (turn .loop .left) (turn .loop .k) (start .args .nodes) (c .before .before .before .before .before .before .loop-test .taken)
-    (c .before .before .check-type .ensures .outcome ∙ ap (leftBy (start .args .types .now) (start .args .nodes)) (c .enum-told .given .1)))
+    let at-check-type = c .before .before in let at-loop-test = at-check-type .before .before .before .before in
+    let start = at-loop-test .before .before .before .before .before .before in
+    let turn = at-loop-test .before in sym (turn .loop .inv .0 ∙ type-fails (start .args .chunk .now) (start .args .edits .now) (start .args .sm5)
+    (start .args .table .now) (start .args .types .now) (turn .loop .i) (turn .loop .left) (turn .loop .k) (start .args .nodes)
+    (at-loop-test .loop-test .taken) (at-check-type .check-type .ensures .outcome ∙ ap (leftBy (start .args .types .now) (start .args .nodes))
+    (c .enum-told .given .1)))
 
 loop-again : tie.Need-loop-again Inv-loop μ-loop
 loop-again c =
-    let start = c .before .before .before .before .before .before .before .before .before .before .before .before .before in
-    let turn = c .before .before .before .before .before .before .before .before in (
-      turn .loop .inv .0
-          ∙ variable-passes (start .args .chunk .now) (start .args .edits .now) (start .args .sm5) (start .args .table .now) (start .args .types .now)
-          (turn .loop .i) (turn .loop .left) (turn .loop .k) (c .before .answer .given .0 .0) (start .args .nodes)
-          (c .before .before .before .before .before .before .before .loop-test .taken)
-          (sym (c .before .before .before .before .before .variable-readable .ensures
-          ∙ ap (variableChecked (start .args .chunk .now) (start .args .edits .now) (start .args .sm5))
-          (c .before .before .before .before .before .before .variable-at .ensures))
-          ∙ not-false (c .before .before .before .before .before .variable-readable .result) (c .before .before .before .before .if1 .left))
-          (c .before .before .before .check-type .ensures .outcome ∙ ap (leftBy (start .args .types .now) (start .args .nodes))
-          (c .before .answer .given .1)),
+    let at-answer = c .before in let at-check-type = at-answer .before .before in let at-if1 = at-check-type .before in
+    let at-variable-readable = at-if1 .before in let at-variable-at = at-variable-readable .before in let at-loop-test = at-variable-at .before in
+    let start = at-loop-test .before .before .before .before .before .before in
+    let turn = at-loop-test .before in (
+      turn .loop .inv .0 ∙ variable-passes (start .args .chunk .now) (start .args .edits .now) (start .args .sm5)
+          (start .args .table .now) (start .args .types .now) (turn .loop .i) (turn .loop .left) (turn .loop .k) (at-answer .answer .given .0 .0)
+          (start .args .nodes) (at-loop-test .loop-test .taken) (sym (at-variable-readable .variable-readable .ensures
+          ∙ ap (variableChecked (start .args .chunk .now) (start .args .edits .now) (start .args .sm5)) (at-variable-at .variable-at .ensures))
+          ∙ not-false (at-variable-readable .variable-readable .result) (at-if1 .if1 .left))
+          (at-check-type .check-type .ensures .outcome ∙ ap (leftBy (start .args .types .now) (start .args .nodes)) (at-answer .answer .given .1)),
       omega arith,
-      subst (NextWithin (start .args .nodes)) (c .before .answer .given .1) (c .before .before .before .check-type .ensures .within),
+      subst (NextWithin (start .args .nodes)) (at-answer .answer .given .1) (at-check-type .check-type .ensures .within),
     )
 
 returns-3 : tie.Need-returns-3 Inv-loop μ-loop
