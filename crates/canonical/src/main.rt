@@ -1,5 +1,7 @@
 // Reads a chunk from standard input and prints its canonical form (document 01, "Canonical form"). Where there is none, standard error says why and
 // standard output gets nothing.
+#![tactic(auto)]
+
 use input::Input;
 use read::Parsed;
 use text_output::Written;

@@ -4,7 +4,7 @@ ghost use Rattle.codes.specs.Table.{lookup, known};
 ghost use Rattle.codes.specs.Microsoft.{srv_dimensions};
 ghost use Rattle.codes.specs.Dimension.{dimension_row, dimension_answer};
 
-#[derive(Drop)]
+#[derive(Clone, Copy)]
 pub enum ResourceDimension {
     Unknown,
     Buffer,
@@ -21,7 +21,7 @@ pub enum ResourceDimension {
 }
 
 // What a number says: one of Microsoft's dimensions (0 is the one called unknown), or none.
-#[derive(Drop)]
+#[derive(Clone, Copy)]
 pub enum DimensionCode {
     Known(ResourceDimension),
     Unknown,

@@ -4,7 +4,7 @@ ghost use Rattle.codes.specs.Table.{lookup, known};
 ghost use Rattle.codes.specs.Microsoft.{input_types};
 ghost use Rattle.codes.specs.InputType.{input_type_row, input_type_answer};
 
-#[derive(Drop)]
+#[derive(Clone, Copy)]
 pub enum ResourceInputType {
     CBuffer,
     TBuffer,
@@ -23,7 +23,7 @@ pub enum ResourceInputType {
 }
 
 // What a number says: one of Microsoft's input types, or none.
-#[derive(Drop)]
+#[derive(Clone, Copy)]
 pub enum InputTypeCode {
     Known(ResourceInputType),
     Unknown,

@@ -1,4 +1,6 @@
 // The codes of an RDEF chunk: Microsoft's enumerations as enums, and the two flag words, which the source keeps apart.
+#![tactic(auto)]
+
 mod dimension;
 mod input_type;
 mod variable;

@@ -4,7 +4,7 @@ ghost use Rattle.codes.specs.Table.{lookup};
 ghost use Rattle.codes.specs.Microsoft.{variable_classes};
 ghost use Rattle.codes.specs.Variable.{base_types, class_row, class_answer, base_type_row, base_type_answer};
 
-#[derive(Drop)]
+#[derive(Clone, Copy)]
 pub enum VariableClass {
     Scalar,
     Vector,
@@ -17,14 +17,14 @@ pub enum VariableClass {
 }
 
 // What a number says: one of Microsoft's classes, or none.
-#[derive(Drop)]
+#[derive(Clone, Copy)]
 pub enum VariableClassCode {
     Known(VariableClass),
     Unknown,
 }
 
 // The variable types that HLSL spells by a word: bool, int, float, uint, double.
-#[derive(Drop)]
+#[derive(Clone, Copy)]
 pub enum BaseType {
     Bool,
     Int,
@@ -34,7 +34,7 @@ pub enum BaseType {
 }
 
 // What a number says: a variable type with a spelling, or another.
-#[derive(Drop)]
+#[derive(Clone, Copy)]
 pub enum BaseTypeCode {
     Known(BaseType),
     Unknown,

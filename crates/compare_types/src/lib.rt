@@ -1,4 +1,6 @@
 // The types of a table: which of two are equal, and which node comes after one.
+#![tactic(auto)]
+
 mod same;
 mod skip;
 

@@ -1,4 +1,6 @@
 // Reads a chunk from standard input and prints the declaration of each variable, a line each, in walk order (document 01, "Spelling and listing").
+#![tactic(auto)]
+
 use input::Input;
 use read::Parsed;
 use reflection::{ResourceDef, Text, TypeDesc};

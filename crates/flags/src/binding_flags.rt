@@ -4,7 +4,7 @@ ghost use Rattle.codes.specs.Microsoft.{D3D_SIF_USERPACKED, D3D_SIF_COMPARISON_S
 ghost use Rattle.codes.specs.Microsoft.{D3D_SIF_TEXTURE_COMPONENT_0, D3D_SIF_TEXTURE_COMPONENT_1};
 ghost use Rattle.flags.specs.Flags.{flag, binding_flags_allowed};
 
-#[derive(Drop)]
+#[derive(Clone, Copy)]
 pub struct BindingFlags(pub u32);
 
 impl BindingFlags {

@@ -1,4 +1,6 @@
 // The two flag words: which bits Microsoft's pages name, and which are allowed.
+#![tactic(auto)]
+
 mod binding_flags;
 mod variable_flags;
 

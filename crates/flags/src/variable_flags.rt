@@ -3,7 +3,7 @@ ghost use Rattle.std.specs.Prelude.{◌≡◌};
 ghost use Rattle.codes.specs.Microsoft.{D3D_SVF_USERPACKED, D3D_SVF_USED, D3D_SVF_INTERFACE_POINTER, D3D_SVF_INTERFACE_PARAMETER};
 ghost use Rattle.flags.specs.Flags.{flag};
 
-#[derive(Drop)]
+#[derive(Clone, Copy)]
 pub struct VariableFlags(pub u32);
 
 impl VariableFlags {

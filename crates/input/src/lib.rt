@@ -1,11 +1,13 @@
 // Reading that tells a failed read from the end of the input. A failed read is said on standard error at once, while errno is its own: the name of the
 // input and errno's text. What is proved is that a count lies within the buffer; which bytes a call of C's reads no contract can say.
+#![tactic(auto)]
+
 ghost use Rattle.input.specs.Input.{Within};
 
 use libc::STDIN_FILENO;
 
 // How many bytes were put at the start of the buffer, 0 at the end of the input; or a read failed.
-#[derive(Drop)]
+#[derive(Clone, Copy)]
 pub enum Input {
     Bytes(usize),
     Failed,

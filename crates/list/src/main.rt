@@ -1,4 +1,6 @@
 // Reads a chunk from standard input and prints each of its bindings as a listed line (document 01, "Spelling and listing").
+#![tactic(auto)]
+
 use input::Input;
 use read::Parsed;
 use reflection::ResourceBinding;

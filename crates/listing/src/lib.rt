@@ -1,4 +1,6 @@
 // Listing a binding (document 01, "Spelling and listing"; `Display for ResourceBinding` in the Rust).
+#![tactic(auto)]
+
 ghost use Rattle.std.specs.Prelude.{◌≡◌, ◌∷◌, ◌++◌, ◌+◌, ◌≤◌, length};
 ghost use Rattle.words.specs.Splice.{Put};
 ghost use Rattle.text_output.specs.Written.{Answers};

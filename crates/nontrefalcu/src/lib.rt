@@ -1,4 +1,6 @@
 // What C and Rust link: the proved library's functions, with numbers and slices only.
+#![tactic(auto)]
+
 mod answer;
 mod canonical;
 mod header;

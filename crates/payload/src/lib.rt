@@ -1,4 +1,6 @@
 // The payload of a reflection: the chunk itself where nothing was edited, else its canonical form (document 01, "What a reflection holds").
+#![tactic(auto)]
+
 ghost use Rattle.std.specs.Prelude.{◌≡◌, true, ◌≤◌, length, replicate};
 ghost use Rattle.reflection.specs.Limits.{binding_table, buffer_table, variable_table, type_table};
 ghost use Rattle.reflection.specs.Outcome.{refused, because};
@@ -10,7 +12,7 @@ use reflection::{NamePlace, Refusal, ResourceDef};
 use text_output::Written;
 
 // What is handed back: the chunk, so many bytes of the output, or nothing, and why.
-#[derive(Drop)]
+#[derive(Clone, Copy)]
 pub enum Payload {
     Chunk,
     Output(usize),

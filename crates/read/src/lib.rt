@@ -1,4 +1,6 @@
 // Reading an RDEF chunk into lent tables (document 01, "Walk order").
+#![tactic(auto)]
+
 ghost use Rattle.std.specs.Prelude.{◌≡◌};
 ghost use Rattle.read.specs.Header.{Headed, rd11_fault};
 ghost use Rattle.read.specs.Parsed.{read_into, ParsedInto};
@@ -15,14 +17,14 @@ use text::Found;
 use words::{one_of, same};
 
 // What reading a chunk answers: the header, or why the chunk was refused.
-#[derive(Drop)]
+#[derive(Clone, Copy)]
 pub enum Parsed {
     Read(ResourceDef),
     Refused(Refusal),
 }
 
 // What the chunk's header says: the creator, whether the chunk is of major 5, and whether its bindings have space and id.
-#[derive(Drop)]
+#[derive(Clone, Copy)]
 pub enum ChunkHeader {
     Valid(Text, bool, bool),
     Invalid(Refusal),

@@ -1,4 +1,6 @@
 // The walks of bindings, variables and buffers: each fills its table, one record after the other (document 01, "Walk order").
+#![tactic(auto)]
+
 mod bindings;
 mod buffers;
 mod variables;

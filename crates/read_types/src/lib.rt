@@ -1,4 +1,6 @@
 // The walk of a type descriptor: a type walks its members and each member walks its type, one level deeper (document 01, "Walk order").
+#![tactic(auto)]
+
 ghost use Rattle.std.specs.Prelude.{◌≡◌, ◌-◌, ◌≤◌, length, take};
 ghost use Rattle.text.specs.Strings.{FoundWithin};
 ghost use Rattle.reflection.specs.Limits.{chunk_limit, type_levels};
@@ -14,7 +16,7 @@ use reflection::{
 use text::Found;
 
 // What a member says of its type: its name and its offset.
-#[derive(Drop)]
+#[derive(Clone, Copy)]
 pub struct Member {
     pub name: Text,
     pub offset: u32,

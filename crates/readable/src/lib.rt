@@ -1,4 +1,6 @@
 // Whether a reflection in lent tables is readable (document 01, "What a reflection holds"): the header and the counts, then the records of each table.
+#![tactic(auto)]
+
 ghost use Rattle.std.specs.Prelude.{◌≡◌};
 ghost use Rattle.readable.specs.Readable.{readable};
 
@@ -13,7 +15,7 @@ use reflection::ResourceDef;
 use words::{at_most, both, either, same};
 
 // What the walk over a type's nodes answers: the node after them, or that a test failed.
-#[derive(Drop)]
+#[derive(Clone, Copy)]
 pub enum Walk {
     Next(usize),
     Failed,

@@ -1,4 +1,6 @@
 // A reflection held in lent tables: the structs of the Rust by value, each the record of a table.
+#![tactic(auto)]
+
 use flags::{BindingFlags, VariableFlags};
 
 mod limits;
@@ -26,7 +28,7 @@ pub use strides::{
 };
 
 // Where a name or a default lies: in the chunk (source 0) or in the text of edits (source 1), `length` bytes from `place` on.
-#[derive(Drop)]
+#[derive(Clone, Copy)]
 pub struct Text {
     pub source: u32,
     pub place: u32,
@@ -34,20 +36,20 @@ pub struct Text {
 }
 
 // Why an entry refused: the number of document 01's table.
-#[derive(Drop)]
+#[derive(Clone, Copy)]
 pub struct Refusal {
     pub number: u32,
 }
 
 // Whether a name lies in the buffer that its source names.
-#[derive(Drop)]
+#[derive(Clone, Copy)]
 pub enum NamePlace {
     InPlace,
     Refused(Refusal),
 }
 
 // The RD11 words that are free; all 0 for major 4.
-#[derive(Drop)]
+#[derive(Clone, Copy)]
 pub struct Rd11Header {
     pub identifier: u32,
     pub resource_binding_stride: u32,
@@ -55,7 +57,7 @@ pub struct Rd11Header {
 }
 
 // A reflection's own numbers, and how many records stand in each table.
-#[derive(Drop)]
+#[derive(Clone, Copy)]
 pub struct ResourceDef {
     pub target_version: u32,
     pub compile_flags: u32,
@@ -68,7 +70,7 @@ pub struct ResourceDef {
 }
 
 // A resource binding: a record of the bindings' table.
-#[derive(Drop)]
+#[derive(Clone, Copy)]
 pub struct ResourceBinding {
     pub name: Text,
     pub input_type: u32,
@@ -83,7 +85,7 @@ pub struct ResourceBinding {
 }
 
 // A constant buffer: a record of the buffers' table. Its variables follow those of the buffers before it.
-#[derive(Drop)]
+#[derive(Clone, Copy)]
 pub struct CBufferDef {
     pub name: Text,
     pub variable_count: u32,
@@ -93,7 +95,7 @@ pub struct CBufferDef {
 }
 
 // A variable: a record of the variables' table. The nodes of its type follow those of the variables before it.
-#[derive(Drop)]
+#[derive(Clone, Copy)]
 pub struct CBufferVariable {
     pub name: Text,
     pub offset: u32,
@@ -108,7 +110,7 @@ pub struct CBufferVariable {
 
 // A type descriptor: a node of the types' table, before the nodes of its members. The last two fields are what it is as a member of the type
 // above it; a root has none.
-#[derive(Drop)]
+#[derive(Clone, Copy)]
 pub struct TypeDesc {
     pub class: u32,
     pub var_type: u32,

@@ -1,4 +1,6 @@
 // What each refusal says, as a sentence.
+#![tactic(auto)]
+
 ghost use Rattle.words.specs.Splice.{Put};
 ghost use Rattle.reflection.specs.Outcome.{ok};
 ghost use Rattle.text_output.specs.Written.{Answers};

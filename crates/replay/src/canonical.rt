@@ -34,7 +34,7 @@ const OUTPUT: usize = reflection::CHUNK_LIMIT + 5120;
 
 // Where the parts of a stored case lie: the chunk, the edits and the four tables with their lengths before them; `lent` is where the lengths of scratch
 // and output stand, and then comes the answer.
-#[derive(Drop)]
+#[derive(Clone, Copy)]
 struct Stored {
     chunk: usize,
     edits: usize,

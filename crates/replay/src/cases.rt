@@ -10,7 +10,7 @@ pub const BEYOND: usize = 4194304;
 
 // The query's kind (1 where a file has one kind), the port's answer, whether all of it is as stored, and where the next case begins: `BEYOND` where
 // this is no case.
-#[derive(Drop)]
+#[derive(Clone, Copy)]
 pub struct Replayed {
     pub kind: u32,
     pub number: u32,

@@ -1,6 +1,8 @@
 // Replays stored answers of the Rust (oracle/README.md has the files' form). For each of the files `reading`, `canonical` and `spelling` it prints the
 // file's name, the index of each case that differs, then how many cases were replayed, how many had each answer, and how many differ. What the port
 // is lent has 0xdd in every byte before, so that what it does not set is seen. Then come the reports of the chunks on standard input.
+#![tactic(auto)]
+
 use cases::{BEYOND, Replayed};
 use stdout::BUFFER;
 use summary::{ANSWERS, line};

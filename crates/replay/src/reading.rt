@@ -17,7 +17,7 @@ pub fn answer_lines(out: &mut [u8; BUFFER], used: &mut usize, answers: &[u32; AN
 }
 
 // How many words the header and each table of a stored answer have.
-#[derive(Drop)]
+#[derive(Clone, Copy)]
 struct Stored {
     header: usize,
     bindings: usize,

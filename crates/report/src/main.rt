@@ -1,4 +1,6 @@
 // Reads a chunk from standard input and prints what it holds, a line for each record (document 01, "The report program").
+#![tactic(auto)]
+
 use input::Input;
 use reflection::{BINDING_TABLE, BUFFER_TABLE, CHUNK_LIMIT, TYPE_TABLE, VARIABLE_TABLE};
 use stdout::BUFFER;

@@ -1,5 +1,7 @@
 // The report of a chunk: what it holds, a line for each record (document 01, "The report program"). It is printed as the tables are walked, so a
 // report has no limit.
+#![tactic(auto)]
+
 use read::Parsed;
 use reflection::{BINDING_TABLE, BUFFER_TABLE, TYPE_TABLE, VARIABLE_TABLE};
 use stdout::BUFFER;

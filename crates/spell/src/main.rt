@@ -1,5 +1,7 @@
 // Reads texts from standard input, a line each, and prints what each spells: class, base, rows, columns and elements, parted by tabs (document 01,
 // "Spelling and listing"). A line feed ends a line, which the last line may lack.
+#![tactic(auto)]
+
 use input::Input;
 use spelling_parse::{SpelledType, TypeSpelling};
 use stdout::BUFFER;

@@ -1,4 +1,6 @@
 // Spellings of types, read (document 01, "Spelling and listing").
+#![tactic(auto)]
+
 use reflection::Refusal;
 
 mod parse;
@@ -6,7 +8,7 @@ mod parse;
 pub use parse::parse_hlsl_type;
 
 // What a spelling says.
-#[derive(Drop)]
+#[derive(Clone, Copy)]
 pub struct TypeSpelling {
     pub class: u32,
     pub base: u32,
@@ -16,7 +18,7 @@ pub struct TypeSpelling {
 }
 
 // What reading a spelling answers: its numbers, or that it is not understood.
-#[derive(Drop)]
+#[derive(Clone, Copy)]
 pub enum SpelledType {
     Understood(TypeSpelling),
     Refused(Refusal),

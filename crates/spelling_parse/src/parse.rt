@@ -13,7 +13,7 @@ use reflection::{NO_SPELLING, Refusal, U16_LIMIT};
 use text::same_text;
 
 // What a part of the text says: a number, or nothing that is understood.
-#[derive(Drop)]
+#[derive(Clone, Copy)]
 enum Number {
     Value(u32),
     NotUnderstood,

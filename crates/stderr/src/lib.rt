@@ -1,4 +1,6 @@
 // What a program says on standard error of an input that was refused.
+#![tactic(auto)]
+
 ghost use Rattle.std.specs.Prelude.{◌≡◌};
 ghost use Rattle.stderr.specs.Refused.{first_of};
 

@@ -2,6 +2,8 @@
 // what is printed has no limit. The first write that fails is said on standard error and leaves the count `FAILED`; from then on nothing is added and
 // no write is tried. What is proved of that is the buffer and the count, and that a write is tried only where none had failed (`write`'s `requires`).
 // Which bytes a call of C's writes no contract can say.
+#![tactic(auto)]
+
 ghost use Rattle.std.specs.Prelude.{◌≡◌, ◌≤◌, ◌<◌};
 ghost use Rattle.stdout.specs.Output.{buffer_size, failed, count_after, StaysFailed, Flushed, ByteAdded};
 

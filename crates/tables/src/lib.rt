@@ -1,4 +1,6 @@
 // The records of the lent tables, written and read.
+#![tactic(auto)]
+
 ghost use Rattle.std.specs.Prelude.{◌≡◌, ℕ, ◌<◌, ◌≤◌, get_or};
 ghost use Rattle.tables.specs.Records.{put_record, record_word};
 ghost use Rattle.tables.specs.Records.{binding_width, buffer_width, variable_width, type_width};

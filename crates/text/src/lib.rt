@@ -1,4 +1,6 @@
 // Text in a chunk: well-formed UTF-8, strings that end in NUL, and whether two texts are equal.
+#![tactic(auto)]
+
 ghost use Rattle.std.specs.Prelude.{◌≡◌, ◌<◌, ◌≤◌, length};
 ghost use Rattle.text.specs.Utf8.{well_formed};
 ghost use Rattle.text.specs.Sequences.{tails_after, lowest_after, highest_after, SequenceEnd};
@@ -7,14 +9,14 @@ ghost use Rattle.text.specs.Strings.{cstring_at, without_nul, FoundWithin};
 ghost use Rattle.text.specs.Same.{same_bytes};
 
 // Bytes that an offset leads to: their place and length, or that they are bad.
-#[derive(Drop)]
+#[derive(Clone, Copy)]
 pub enum Found {
     At(usize, usize),
     Bad,
 }
 
 // Where the sequence that begins at an index ends, or that none of Table 3-7 begins there.
-#[derive(Drop)]
+#[derive(Clone, Copy)]
 enum Sequence {
     To(usize),
     IllFormed,

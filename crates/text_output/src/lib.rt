@@ -1,4 +1,6 @@
 // Text written to a lent output, piece after piece. Stores past the output's end vanish; the cursor goes on, and the end tells whether all fitted.
+#![tactic(auto)]
+
 ghost use Rattle.std.specs.Prelude.{◌≡◌, [], ◌∷◌, ◌≤◌, length, replicate};
 ghost use Rattle.words.specs.Splice.{Put, splice};
 ghost use Rattle.reflection.specs.Outcome.{refused, because};
@@ -16,7 +18,7 @@ pub use number::{put_decimal, put_hex};
 pub use table::entry;
 
 // What writing to a lent output answers: how many bytes were written, or why nothing was.
-#[derive(Drop)]
+#[derive(Clone, Copy)]
 pub enum Written {
     Wrote(usize),
     Refused(Refusal),

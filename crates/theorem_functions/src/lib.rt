@@ -1,4 +1,6 @@
 // Demands 2 and 3 of document 01 as contracts of functions that make the calls: the canonical form is written, and read from the output that it was written to.
+#![tactic(auto)]
+
 ghost use Rattle.theorem_functions.specs.Calls.{lent, left, WroteAndRead};
 ghost use Rattle.theorem_functions.specs.Noninterference.{Noninterference};
 ghost use Rattle.theorem_functions.specs.RoundTrip.{RoundTrip};
@@ -8,21 +10,21 @@ use reflection::{BINDING_TABLE, BUFFER_TABLE, Refusal, ResourceDef, TYPE_TABLE, 
 use text_output::Written;
 
 // What came of a reflection that was written and read again: how many bytes were written and what these read as, or why nothing was written.
-#[derive(Drop)]
+#[derive(Clone, Copy)]
 pub enum WrittenAndRead {
     Wrote(usize, Parsed),
     Refused(Refusal),
 }
 
 // The same of two reflections.
-#[derive(Drop)]
+#[derive(Clone, Copy)]
 pub struct WrittenPair {
     pub a: WrittenAndRead,
     pub b: WrittenAndRead,
 }
 
 // The same of one reflection, and what came of writing again what was read.
-#[derive(Drop)]
+#[derive(Clone, Copy)]
 pub struct WrittenTwice {
     pub first: WrittenAndRead,
     pub again: Written,

@@ -1,5 +1,7 @@
 // Runs `theorem_functions::write_pair` and `theorem_functions::write_read_write` on a stored pair of chunks and prints what it saw. Both chunks hold document
 // 01's case V with a default of four bytes; the defaults differ, and so does where the chunks have them and the creator.
+#![tactic(auto)]
+
 use input::Input;
 use read::Parsed;
 use reflection::{BINDING_TABLE, BUFFER_TABLE, TYPE_TABLE, VARIABLE_TABLE};

@@ -1,1 +1,2 @@
 // What two reflections have alike (specs/Noninterference.antt); no code.
+#![tactic(auto)]

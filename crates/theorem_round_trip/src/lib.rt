@@ -1,1 +1,2 @@
 // What is written reads back (specs/RoundTrip.antt); no code.
+#![tactic(auto)]

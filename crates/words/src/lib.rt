@@ -1,4 +1,6 @@
 // Little-endian numbers in bytes, parts of bytes, zeroing, and runs of words written into a table.
+#![tactic(auto)]
+
 ghost use Rattle.std.specs.Prelude.{◌≡◌, ◌++◌, ◌+◌, ◌-◌, ◌≤◌, ◌<◌, min, length, get_or, take, replicate};
 ghost use Rattle.words.specs.Words.{half_at, word_at, word_if, low_at, high_at};
 ghost use Rattle.words.specs.Parts.{inside, part};

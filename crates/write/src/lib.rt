@@ -1,4 +1,6 @@
 // Writing a reflection in its canonical form (document 01, "Canonical form").
+#![tactic(auto)]
+
 ghost use Rattle.std.specs.Prelude.{◌≡◌, length, replicate};
 ghost use Rattle.write.specs.WriteInto.{write_into, WrittenInto};
 

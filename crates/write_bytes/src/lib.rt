@@ -1,4 +1,6 @@
 // Writes words, padding and names. Stores past the output's end vanish; the cursor goes on.
+#![tactic(auto)]
+
 ghost use Rattle.std.specs.Prelude.{◌≡◌, [], ◌∷◌, ◌++◌, ◌+◌, ◌≤◌, ◌<◌, ◌^◌, length, replicate};
 ghost use Rattle.words.specs.Words.{word_bytes};
 ghost use Rattle.words.specs.Splice.{Put, splice};

@@ -1,4 +1,6 @@
 // A pool of texts in lent words, with an index (specs/Pool.antt says how the words lie).
+#![tactic(auto)]
+
 ghost use Rattle.std.specs.Prelude.{◌≡◌, ◌+◌, ◌*◌, ◌%◌, ◌<◌, ◌≤◌, length};
 ghost use Rattle.text.specs.Same.{same_bytes};
 ghost use Rattle.reflection.specs.Texts.{text_bytes};
@@ -9,7 +11,7 @@ ghost use Rattle.write_pool.specs.Pool.{Begun, Remembered};
 use reflection::Text;
 
 // What a search in a pool answers: the offset of an equal text, or that there is none.
-#[derive(Drop)]
+#[derive(Clone, Copy)]
 pub enum Pooled {
     At(u32),
     Absent,

@@ -1,4 +1,6 @@
 // Variables, sections, buffers, bindings and the header of a chunk, placed and written: the canonical writer above types (document 01, "Canonical form").
+#![tactic(auto)]
+
 mod buffers;
 mod chunk;
 mod names;

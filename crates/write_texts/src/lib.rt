@@ -1,4 +1,6 @@
 // Steps of canonical writing that place names and defaults, with the pools of texts in the scratch.
+#![tactic(auto)]
+
 ghost use Rattle.std.specs.Prelude.{◌≤◌, ◌<◌};
 ghost use Rattle.write_spec.specs.Layout.{place_outer_name, place_inner_name, place_default};
 ghost use Rattle.write_pool.specs.Pool.{entry_count};
@@ -19,14 +21,14 @@ pub use scratch::{
 pub use write_bytes::{put_padding, put_word_bytes};
 
 // Where something was placed, and the cursor after it.
-#[derive(Drop)]
+#[derive(Clone, Copy)]
 pub struct Placement {
     pub offset: u32,
     pub at: usize,
 }
 
 // Where the writer stands: the output cursor, the next type node, and how many types of members and of variables may be shared.
-#[derive(Drop)]
+#[derive(Clone, Copy)]
 pub struct WriteCursor {
     pub at: usize,
     pub node: usize,

@@ -1,0 +1,14 @@
+-- `ResourceDimension::is_known` meets its contract: the answer of `from_u32` names the row that the table has at the number.
+use borrow.Author.Rules.{rules}
+use Rattle.codes.specs.Microsoft.{srv_dimensions}
+use Rattle.codes.specs.Dimension.{dimension_answer}
+use Rattle.codes.proofs.Lookup.{answer_known}
+use Rattle.codes.proofs.dimension.ResourceDimension.is_known.Goals as goal
+
+pub returns-in-Known : goal.returns-in-Known
+returns-in-Known c =
+    answer_known dimension_answer srv_dimensions c.args.v c.from_u32-code.ensures c.in-Known.is
+
+pub returns-in-Unknown : goal.returns-in-Unknown
+returns-in-Unknown c =
+    answer_known dimension_answer srv_dimensions c.args.v c.from_u32-code.ensures c.in-Unknown.is

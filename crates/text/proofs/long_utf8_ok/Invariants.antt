@@ -1,0 +1,18 @@
+-- `text::long_utf8_ok` meets its contract. The invariant of its loop: the bytes below i and those from i on decide together.
+use mathlib.Core.Path.{◌≡◌, sym, ap, ◌∙◌}
+use mathlib.Core.Bool.{Bool, ◌&&◌, not}
+use Prim.Native.Nat.{ℕ, ◌+◌, ◌≤◌, ◌-◌}
+use native.Mathlib.Omega.{arith}
+use borrow.Author.Rules.{rules}
+use lib.ListN.{length, get_or, drop}
+use Rattle.text.specs.Utf8.{well_formed}
+use Rattle.text.specs.Neighbours.{tail_due, fits, fits_from}
+use Rattle.text.proofs.Bools.{and_assoc}
+use Rattle.text.proofs.Neighbours.{fits_start, fits_next, fits_past}
+use Rattle.text.proofs.long_utf8_ok.Given as goal
+
+abbrev pub invariant-loop-i : goal.invariant-loop-i
+invariant-loop-i l = (3 ≤ l.i) × (l.i ≤ length l.s) × (well_formed l.s ≡ (l.ok && fits_from (get_or l.s (l.i - 3) 0) (get_or l.s (l.i - 2) 0) (get_or l.s (l.i - 1) 0) (drop l.i l.s)))
+
+abbrev pub decreases-loop-i : goal.decreases-loop-i
+decreases-loop-i l = length l.s - l.i
