@@ -14,7 +14,7 @@ use Rattle.reflection.specs.Limits.{chunk_limit}
 use Rattle.reflection.specs.Strides.{rd11_header_size, binding_stride, buffer_stride, variable_stride, type_stride, member_stride, rd11_identifier, sm51_identifier}
 use Rattle.reflection.specs.Rd11.{rd11_allowed}
 use Rattle.reflection.specs.declared.Text.{Text}
-use Rattle.reflection.specs.Reflection.{CBufferVariable, CBufferDef, ResourceBinding, ResourceDef, Rd11, rd11, major_of, is_sm5, is_wide}
+use Rattle.reflection.specs.Reflection.{CBufferVariable, CBufferDef, ResourceBinding, ResourceDef, Rd11, major_of, is_sm5, is_wide}
 use Rattle.tables.specs.Nodes.{nodes_of, type_levels}
 use Rattle.reflection.specs.Texts.{in_chunk}
 use Rattle.reflection.specs.Reflection.{all_variables}

@@ -9,7 +9,7 @@ use Rattle.codes.specs.Microsoft.{input_types, srv_dimensions}
 use Rattle.flags.specs.Flags.{binding_flags_allowed}
 use Rattle.reflection.specs.declared.Text.{Text}
 use Rattle.reflection.specs.declared.ResourceDef.{ResourceDef as Header}
-use Rattle.reflection.specs.Reflection.{TypeNumbers, TypeDesc, type_desc, Members, no_member, member, member_count, CBufferVariable, CBufferDef}
+use Rattle.reflection.specs.Reflection.{TypeNumbers, TypeDesc, type_desc, Members, no_member, member, member_count, CBufferVariable}
 use Rattle.reflection.specs.Reflection.{ResourceBinding, ResourceDef, Rd11, no_rd11, rd11, major_of, is_sm5, is_wide}
 use Rattle.tables.specs.Nodes.{◌>>=◌, nodes_of, type_levels}
 use Rattle.reflection.specs.Reflection.{all_variables}
