@@ -1,5 +1,4 @@
 -- `byte_at`: the byte where there is one; past the end both sides are 0.
-use borrow.Author.Rules.{rules}
 use mathlib.Core.Path.{refl, sym}
 use native.Mathlib.Omega.{arith}
 use lib.ListN.{get_or-eq_default}

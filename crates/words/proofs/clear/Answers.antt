@@ -1,5 +1,4 @@
 -- `clear`: what `clear_from` says of place 0.
-use borrow.Author.Rules.{rules}
 use mathlib.Core.Path.{ap, ◌∙◌}
 use Prim.Native.Nat.{ℕ}
 use native.Mathlib.Nat.{sub-zero}

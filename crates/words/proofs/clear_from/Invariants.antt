@@ -1,12 +1,8 @@
 -- `clear_from`: after each turn the words are the old ones with a run of zeros written over them from `at` on; at the end that run reaches the end.
-use borrow.Author.Rules.{rules}
-use mathlib.Core.Path.{◌≡◌, refl, sym, ap, ◌∙◌}
-use Prim.Native.Nat.{ℕ, ◌-◌, ◌≤◌}
-use native.Mathlib.Omega.{arith}
-use lib.ListN.{length, replicate, length-set, length-replicate}
+use mathlib.Core.Path.{◌≡◌}
+use Prim.Native.Nat.{◌-◌, ◌≤◌}
+use lib.ListN.{length, replicate}
 use Rattle.words.specs.Splice.{splice}
-use Rattle.words.proofs.Splice.{splice_nil}
-use Rattle.words.proofs.Splice.{splice_to_end, splice_replicate_more}
 use Rattle.words.proofs.clear_from.Given as goal
 
 abbrev pub invariant-loop-i : goal.invariant-loop-i

@@ -1,5 +1,4 @@
 -- `half_at`: the definition's sum of two bytes, each below 256; past the end both bytes are 0.
-use borrow.Author.Rules.{rules}
 use mathlib.Core.Path.{sym}
 use native.Mathlib.Omega.{arith}
 use Rattle.words.specs.Words.{half_at}

@@ -1,5 +1,4 @@
 -- `high_at`: the upper half is defined from the word, as the code takes it.
-use borrow.Author.Rules.{rules}
 use Rattle.words.specs.Words.{high_at}
 use Rattle.words.proofs.high_at.Goals as goal
 

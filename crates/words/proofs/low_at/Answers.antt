@@ -1,5 +1,4 @@
 -- `low_at`: the lower half is defined from the word, as the code takes it.
-use borrow.Author.Rules.{rules}
 use Rattle.words.specs.Words.{low_at}
 use Rattle.words.proofs.low_at.Goals as goal
 

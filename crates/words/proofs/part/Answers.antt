@@ -1,5 +1,4 @@
 -- `part`: `inside` decides which of the definition's two cases holds, and the slice is that case's list.
-use borrow.Author.Rules.{rules}
 use mathlib.Core.Path.{sym, ◌∙◌}
 use native.Mathlib.Nat.{add-sub_cancel_left}
 use native.Mathlib.Omega.{arith}

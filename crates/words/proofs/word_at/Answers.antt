@@ -1,5 +1,4 @@
 -- `word_at`: both ways to the word say the same; where `inside` holds, the four bytes lie in s.
-use borrow.Author.Rules.{rules}
 use mathlib.Core.Path.{sym, ◌∙◌}
 use lib.ListN.{length}
 use Rattle.words.proofs.Parts.{inside_fits}

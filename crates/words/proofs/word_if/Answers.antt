@@ -1,5 +1,4 @@
 -- `word_if` answers the word where the record has it, else 0: the two cases of the definition.
-use borrow.Author.Rules.{rules}
 use mathlib.Core.Path.{sym, ap, ◌∙◌}
 use mathlib.Core.Bool.{Bool}
 use Rattle.words.specs.Words.{word_if}

@@ -1,5 +1,4 @@
 -- `word_near_end`: a word is its two halves; past the end both are 0.
-use borrow.Author.Rules.{rules}
 use mathlib.Core.Path.{sym}
 use native.Mathlib.Omega.{arith}
 use Rattle.words.proofs.Words.{word_halves, word_past_end}

@@ -1,5 +1,4 @@
 -- `word_within`: the definition's sum of four bytes, each below 256.
-use borrow.Author.Rules.{rules}
 use native.Mathlib.Omega.{arith}
 use Rattle.words.specs.Words.{word_at}
 use Rattle.words.proofs.word_within.Goals as goal

@@ -1,7 +1,6 @@
 -- `one_of` meets its contract: either of its two tests. Assumes nothing.
 use mathlib.Core.Path.{◌∙◌}
 use mathlib.Core.Bool.{◌||◌}
-use borrow.Author.Rules.{rules}
 use Rattle.words.proofs.tests.one_of.Goals as goal
 
 pub returns : goal.returns
