@@ -1,11 +1,10 @@
 use mathlib.Core.Path.{◌≡◌, sym, ap, ◌∙◌}
 use mathlib.Core.Bool.{true, false}
-use Prim.Native.Nat.{◌+◌, ◌≤◌, ◌-◌}
+use Prim.Native.Nat.{◌+◌, ◌-◌}
 use native.Mathlib.Omega.{arith}
-use borrow.Author.Rules.{rules}
-use lib.ListN.{length, drop}
+use lib.ListN.{drop}
 use Rattle.text.specs.Strings.{until_nul}
-use Rattle.text.proofs.Strings.{until_nul_end, until_nul_here, until_nul_more, cstring_no_nul, cstring_ends, AsciiFrom, part_ascii}
+use Rattle.text.proofs.Strings.{until_nul_end, until_nul_here, until_nul_more, cstring_no_nul, cstring_ends, part_ascii}
 use Rattle.text.proofs.Strings.{flag_fallen, flag_kept}
 use Rattle.text.proofs.cstring_at.Goals as goal
 use Rattle.text.proofs.cstring_at.Goals.{then-b-ge128, else-b-ge128}
@@ -42,7 +41,7 @@ loop-i-preserved c =
       turn.invariant.1 ∙ until_nul_more s at i (i - at)
           c.loop-i-test.true c.if-b-eq0.false ∙ ap (until_nul (drop (i + 1) s) at) longer,
       elim c.if-b-ge128.branch [
-        then-b-ge128 w ↦ flag_fallen s at i c.if-b-ge128.ascii w.ascii-is
+        | then-b-ge128 w ↦ flag_fallen s at i c.if-b-ge128.ascii w.ascii-is
         | else-b-ge128 w ↦ flag_kept s at i c.if-b-ge128.ascii turn.ascii w.ascii-is turn.invariant.2 w.if-b-ge128.false
       ],
     )

@@ -1,14 +1,11 @@
 -- `text::cstring_at` meets its contract. The invariant of its loop: the scan from i on decides, and while the flag stands the bytes passed are all
 -- below 0x80, so that a string of such bytes needs no second pass.
-use mathlib.Core.Path.{◌≡◌, sym, ap, ◌∙◌}
-use mathlib.Core.Bool.{true, false}
-use Prim.Native.Nat.{◌+◌, ◌≤◌, ◌-◌}
-use native.Mathlib.Omega.{arith}
-use borrow.Author.Rules.{rules}
+use mathlib.Core.Path.{◌≡◌}
+use mathlib.Core.Bool.{true}
+use Prim.Native.Nat.{◌≤◌, ◌-◌}
 use lib.ListN.{length, drop}
 use Rattle.text.specs.Strings.{until_nul}
-use Rattle.text.proofs.Strings.{until_nul_end, until_nul_here, until_nul_more, cstring_no_nul, cstring_ends, AsciiFrom, part_ascii}
-use Rattle.text.proofs.Strings.{flag_fallen, flag_kept}
+use Rattle.text.proofs.Strings.{AsciiFrom}
 use Rattle.text.proofs.cstring_at.Given as goal
 
 abbrev pub invariant-loop-i : goal.invariant-loop-i

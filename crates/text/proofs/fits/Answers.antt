@@ -1,7 +1,6 @@
 -- `text::fits` meets its contract.
 use mathlib.Core.Path.{ap, ◌∙◌, sym}
 use mathlib.Core.Bool.{cond}
-use borrow.Author.Rules.{rules}
 use Rattle.text.specs.Neighbours.{fits, may_follow, may_begin}
 use Rattle.text.proofs.fits.Goals as goal
 

@@ -1,10 +1,8 @@
 use mathlib.Core.Path.{◌≡◌, sym, ap, ◌∙◌}
 use mathlib.Core.Bool.{Bool, ◌&&◌, not}
-use Prim.Native.Nat.{ℕ, ◌+◌, ◌≤◌, ◌-◌}
+use Prim.Native.Nat.{ℕ, ◌+◌, ◌-◌}
 use native.Mathlib.Omega.{arith}
-use borrow.Author.Rules.{rules}
 use lib.ListN.{length, get_or, drop}
-use Rattle.text.specs.Utf8.{well_formed}
 use Rattle.text.specs.Neighbours.{tail_due, fits, fits_from}
 use Rattle.text.proofs.Bools.{and_assoc}
 use Rattle.text.proofs.Neighbours.{fits_start, fits_next, fits_past}

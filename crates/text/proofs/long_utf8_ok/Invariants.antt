@@ -1,14 +1,10 @@
 -- `text::long_utf8_ok` meets its contract. The invariant of its loop: the bytes below i and those from i on decide together.
-use mathlib.Core.Path.{◌≡◌, sym, ap, ◌∙◌}
-use mathlib.Core.Bool.{Bool, ◌&&◌, not}
-use Prim.Native.Nat.{ℕ, ◌+◌, ◌≤◌, ◌-◌}
-use native.Mathlib.Omega.{arith}
-use borrow.Author.Rules.{rules}
+use mathlib.Core.Path.{◌≡◌}
+use mathlib.Core.Bool.{◌&&◌}
+use Prim.Native.Nat.{◌≤◌, ◌-◌}
 use lib.ListN.{length, get_or, drop}
 use Rattle.text.specs.Utf8.{well_formed}
-use Rattle.text.specs.Neighbours.{tail_due, fits, fits_from}
-use Rattle.text.proofs.Bools.{and_assoc}
-use Rattle.text.proofs.Neighbours.{fits_start, fits_next, fits_past}
+use Rattle.text.specs.Neighbours.{fits_from}
 use Rattle.text.proofs.long_utf8_ok.Given as goal
 
 abbrev pub invariant-loop-i : goal.invariant-loop-i

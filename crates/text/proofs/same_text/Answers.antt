@@ -1,6 +1,5 @@
 -- `text::same_text` meets its contract.
 use mathlib.Core.Path.{sym}
-use borrow.Author.Rules.{rules}
 use Rattle.text.proofs.SameBytes.{other_length}
 use Rattle.text.proofs.same_text.Goals as goal
 

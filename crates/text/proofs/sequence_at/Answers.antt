@@ -1,10 +1,8 @@
 use mathlib.Core.Path.{◌≡◌, sym, ap, ◌∙◌}
-use mathlib.Core.List.{[]}
-use Prim.Native.Nat.{ℕ, ◌<◌, ◌≤◌}
+use Prim.Native.Nat.{ℕ, ◌<◌}
 use native.Mathlib.Omega.{arith}
-use borrow.Author.Rules.{rules}
-use lib.ListN.{length, drop, get_or}
-use Rattle.text.specs.Utf8.{Left, run, whole}
+use lib.ListN.{drop, get_or}
+use Rattle.text.specs.Utf8.{run, whole}
 use Rattle.text.proofs.Runs.{run_ascii_byte}
 use Rattle.text.proofs.Sequences.{awaits, run_no_first, run_first, run_cut_short, run_too_low, run_too_high, run_tail}
 use Rattle.text.proofs.sequence_at.Goals as goal

@@ -1,14 +1,11 @@
 -- `text::sequence_at` meets its contract. The invariant of its loop: what the bytes from i on do to what is awaited there is what those from `at`
 -- on do. Each way out is one law of Sequences.
-use mathlib.Core.Path.{◌≡◌, sym, ap, ◌∙◌}
+use mathlib.Core.Path.{◌≡◌}
 use mathlib.Core.List.{[]}
-use Prim.Native.Nat.{ℕ, ◌<◌, ◌≤◌}
-use native.Mathlib.Omega.{arith}
-use borrow.Author.Rules.{rules}
-use lib.ListN.{length, drop, get_or}
-use Rattle.text.specs.Utf8.{Left, run, whole}
-use Rattle.text.proofs.Runs.{run_ascii_byte}
-use Rattle.text.proofs.Sequences.{awaits, run_no_first, run_first, run_cut_short, run_too_low, run_too_high, run_tail}
+use Prim.Native.Nat.{◌<◌, ◌≤◌}
+use lib.ListN.{length, drop}
+use Rattle.text.specs.Utf8.{Left, run}
+use Rattle.text.proofs.Sequences.{awaits}
 use Rattle.text.proofs.sequence_at.Given as goal
 
 abbrev pub invariant-loop-left : goal.invariant-loop-left

@@ -1,10 +1,8 @@
-use mathlib.Core.Path.{◌≡◌, refl, sym, ap, subst, ◌∙◌}
+use mathlib.Core.Path.{refl, sym, ap, subst, ◌∙◌}
 use mathlib.Core.List.{[]}
-use Prim.Native.Nat.{◌≤◌, ◌-◌}
 use native.Mathlib.Omega.{arith}
 use borrow.Author.Rules.{rules}
-use lib.ListN.{length, drop}
-use Rattle.text.specs.Utf8.{Left, run, whole, well_formed}
+use Rattle.text.specs.Utf8.{Left, whole, well_formed}
 use Rattle.text.specs.Sequences.{SequenceEnd}
 use Rattle.text.proofs.Runs.{run_end}
 use Rattle.text.proofs.short_utf8_ok.Goals as goal

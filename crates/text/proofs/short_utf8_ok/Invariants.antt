@@ -1,13 +1,9 @@
 -- `text::short_utf8_ok` meets its contract. The invariant of its loop: i stands between two sequences, and the bytes from i on decide.
-use mathlib.Core.Path.{◌≡◌, refl, sym, ap, subst, ◌∙◌}
+use mathlib.Core.Path.{◌≡◌}
 use mathlib.Core.List.{[]}
 use Prim.Native.Nat.{◌≤◌, ◌-◌}
-use native.Mathlib.Omega.{arith}
-use borrow.Author.Rules.{rules}
 use lib.ListN.{length, drop}
-use Rattle.text.specs.Utf8.{Left, run, whole, well_formed}
-use Rattle.text.specs.Sequences.{SequenceEnd}
-use Rattle.text.proofs.Runs.{run_end}
+use Rattle.text.specs.Utf8.{Left, run}
 use Rattle.text.proofs.short_utf8_ok.Given as goal
 
 abbrev pub invariant-loop-i : goal.invariant-loop-i

@@ -1,5 +1,4 @@
 -- `ResourceDimension::is_known` meets its contract: the answer of `from_u32` names the row that the table has at the number.
-use borrow.Author.Rules.{rules}
 use Rattle.codes.specs.Microsoft.{srv_dimensions}
 use Rattle.codes.specs.Dimension.{dimension_answer}
 use Rattle.codes.proofs.Lookup.{answer_known}

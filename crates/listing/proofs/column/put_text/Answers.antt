@@ -1,0 +1,6 @@
+-- `put_text` meets its contract: a space, then the text, filled up.
+use Rattle.words.proofs.Splice.{put_then}
+use Rattle.listing.proofs.column.put_text.Goals as goal
+
+pub returns : goal.returns
+returns c = put_then c.put_byte-start.ensures c.put_padded.ensures.text
