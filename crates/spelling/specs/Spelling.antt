@@ -1,5 +1,5 @@
 -- The spelling of a type, and the declaration line of a variable: document 01, "Spelling and listing" (`hlsl_type_name` in the Rust).
-use Rattle.std.specs.Prelude.{Bool, true, false, ◌&&◌, ◌||◌, not, cond, List, [], ◌∷◌, ◌++◌, ℕ, eqb, ltb}
+use Rattle.std.specs.Prelude.{Bool, true, false, ◌&&◌, ◌||◌, cond, List, [], ◌∷◌, ◌++◌, ℕ, eqb, ltb}
 use Rattle.std.proofs.Math.Option.{Option, none, some}
 use Rattle.codes.specs.Table.{lookup}
 use Rattle.codes.specs.Microsoft.{D3D_SHADER_VARIABLE_CLASS, D3D_SVC_SCALAR, D3D_SVC_VECTOR, D3D_SVC_MATRIX_ROWS, D3D_SVC_MATRIX_COLUMNS}
