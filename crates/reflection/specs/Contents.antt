@@ -2,7 +2,7 @@
 -- (document 01, "What a reflection holds").
 use Rattle.std.specs.Prelude.{List, [], ◌∷◌, ◌++◌, map, ℕ}
 use Rattle.reflection.specs.declared.Text.{Text}
-use Rattle.reflection.specs.Reflection.{TypeDesc, type_desc, Members, no_member, member, CBufferVariable, CBufferDef, ResourceDef, map_def}
+use Rattle.reflection.specs.Reflection.{TypeDesc, type_desc, Members, no_member, member, CBufferVariable, ResourceDef, map_def}
 use Rattle.reflection.specs.Texts.{text_bytes}
 use Rattle.reflection.specs.Reflection.{all_variables}
 

@@ -1,6 +1,6 @@
 -- A reflection: what an RDEF chunk says, in the shape of the Rust's structs. N is what stands for a name and D what stands for a default: a
 -- place in a buffer (`Text`) as reading gives them, or their bytes where two reflections are compared (document 01, "What a reflection holds").
-use Rattle.std.specs.Prelude.{Bool, true, false, List, [], ◌∷◌, ◌++◌, map, ℕ, zero, suc, ◌/◌, ◌%◌, eqb}
+use Rattle.std.specs.Prelude.{Bool, true, false, List, [], ◌∷◌, ◌++◌, map, ℕ, suc, ◌/◌, ◌%◌, eqb}
 use Rattle.reflection.specs.Strides.{binding_stride}
 
 -- The numbers of a type descriptor (`TypeDesc`); `extra` is what major 5 adds, 0 for major 4.

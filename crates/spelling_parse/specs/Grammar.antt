@@ -3,7 +3,7 @@
 --   core    = base | base digits.. | base digits.. 'x' number
 --             base is all before the first digit; the first 'x' after it parts rows and columns
 --   number  = ['+'] digit {digit}                 below 65,536; leading zeros without limit
-use Rattle.std.specs.Prelude.{Bool, true, false, ◌&&◌, cond, List, [], ◌∷◌, ◌++◌, ℕ, suc, ◌+◌, ◌*◌, ◌-◌, eqb, leb, ltb}
+use Rattle.std.specs.Prelude.{Bool, ◌&&◌, cond, List, [], ◌∷◌, ℕ, ◌+◌, ◌*◌, ◌-◌, eqb, leb, ltb}
 use Rattle.std.proofs.Math.Option.{Option, none, some}
 use Rattle.codes.specs.Microsoft.{D3D_SVC_SCALAR, D3D_SVC_VECTOR, D3D_SVC_MATRIX_COLUMNS, variable_class_number}
 use Rattle.reflection.specs.Limits.{u16_limit}

@@ -1,5 +1,5 @@
 -- The tree at a node: its equations at the numbers that code has, and where the next node lies. Each follows the definition, by levels and members.
-use mathlib.Core.Path.{◌≡◌, refl, sym, ap}
+use mathlib.Core.Path.{◌≡◌, refl}
 use mathlib.Core.Bool.{Bool, true, false}
 use mathlib.Core.List.{List}
 use Prim.Native.Nat.{ℕ, zero, suc, ◌+◌, ◌-◌, ◌/◌, ◌≤◌, ◌<◌}
@@ -8,7 +8,7 @@ use borrow.Author.Tests.{ltb-true}
 use lib.Dec.{ltb}
 use lib.ListN.{length}
 use Rattle.reflection.specs.declared.Text.{Text}
-use Rattle.reflection.specs.Reflection.{TypeDesc, type_desc, Members, no_member, member}
+use Rattle.reflection.specs.Reflection.{TypeDesc, type_desc, no_member, member}
 use Rattle.tables.specs.Records.{type_width, holds_record}
 use Rattle.tables.specs.Trees.{BuiltAt, node_at, has_member, members_at, tree_at, type_tree, members_of}
 

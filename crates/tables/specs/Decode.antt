@@ -1,6 +1,6 @@
 -- A reflection read off its header and its four tables: the first records of each table, as many as the header counts; a type for each variable, built
 -- from the nodes in order; for each buffer the next of the variables. `none` where the counts do not match the records.
-use Rattle.std.specs.Prelude.{Bool, true, false, List, [], ◌∷◌, map, ℕ, zero, suc, ◌/◌, eqb, leb, length, take, drop}
+use Rattle.std.specs.Prelude.{Bool, true, false, List, [], ◌∷◌, map, ℕ, zero, suc, ◌/◌, leb, length, take, drop}
 use Rattle.std.proofs.Math.Option.{Option, none, some}
 use Rattle.reflection.specs.declared.Text.{Text}
 use Rattle.reflection.specs.declared.ResourceDef.{ResourceDef as Header}
@@ -9,7 +9,7 @@ use Rattle.reflection.specs.declared.CBufferDef.{CBufferDef as BufferRecord}
 use Rattle.reflection.specs.declared.CBufferVariable.{CBufferVariable as VariableRecord}
 use Rattle.reflection.specs.declared.TypeDesc.{TypeDesc as TypeRecord}
 use Rattle.reflection.specs.Rd11.{rd11_from_header}
-use Rattle.reflection.specs.Reflection.{TypeDesc, CBufferVariable, CBufferDef, ResourceBinding, ResourceDef, Rd11, no_rd11, rd11, major_of}
+use Rattle.reflection.specs.Reflection.{TypeDesc, CBufferVariable, CBufferDef, ResourceBinding, ResourceDef}
 use Rattle.tables.specs.Nodes.{Node, ◌>>=◌, type_from_nodes, type_levels}
 use Rattle.tables.specs.Records.{binding_width, buffer_width, variable_width, type_width, binding_at, buffer_at, variable_at, type_at}
 

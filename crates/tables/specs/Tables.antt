@@ -8,7 +8,7 @@ use Rattle.reflection.specs.declared.CBufferDef.{CBufferDef as BufferRecord}
 use Rattle.reflection.specs.declared.CBufferVariable.{CBufferVariable as VariableRecord}
 use Rattle.reflection.specs.declared.TypeDesc.{TypeDesc as TypeRecord}
 use Rattle.reflection.specs.Outcome.{Outcome, ok, refused}
-use Rattle.reflection.specs.Reflection.{all_variables, TypeNumbers, TypeDesc, CBufferVariable, CBufferDef, ResourceBinding, ResourceDef, identifier_of}
+use Rattle.reflection.specs.Reflection.{all_variables, CBufferVariable, CBufferDef, ResourceBinding, ResourceDef, identifier_of}
 use Rattle.reflection.specs.Reflection.{stride_of, slots_of}
 use Rattle.tables.specs.Nodes.{Node, nodes_of}
 use Rattle.reflection.specs.Texts.{in_chunk}

@@ -1,5 +1,4 @@
 -- `put_binding` meets its contract: the array that it fills holds the words of a binding in their order.
-use borrow.Author.Rules.{rules}
 use Rattle.tables.specs.Records.{binding_words_in_table}
 use Rattle.tables.proofs.put_binding.Goals as goal
 

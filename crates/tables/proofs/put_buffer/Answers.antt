@@ -1,5 +1,4 @@
 -- `put_buffer` meets its contract: the array that it fills holds the words of a buffer in their order.
-use borrow.Author.Rules.{rules}
 use Rattle.tables.specs.Records.{buffer_words_in_table}
 use Rattle.tables.proofs.put_buffer.Goals as goal
 

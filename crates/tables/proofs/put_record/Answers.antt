@@ -1,5 +1,4 @@
 -- `put_record` meets its contract: its test is the definition's, and a record that lies whole in the table begins where no product wraps.
-use borrow.Author.Rules.{rules}
 use mathlib.Core.Path.{sym, ◌∙◌}
 use native.Mathlib.Omega.{arith}
 use lib.ListN.{length}

@@ -1,5 +1,4 @@
 -- `put_type` meets its contract: the array that it fills holds the words of a type node in their order.
-use borrow.Author.Rules.{rules}
 use Rattle.tables.specs.Records.{type_words_in_table}
 use Rattle.tables.proofs.put_type.Goals as goal
 

@@ -1,5 +1,4 @@
 -- `put_variable` meets its contract: the array that it fills holds the words of a variable in their order.
-use borrow.Author.Rules.{rules}
 use Rattle.tables.specs.Records.{variable_words_in_table}
 use Rattle.tables.proofs.put_variable.Goals as goal
 

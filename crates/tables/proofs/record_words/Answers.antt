@@ -1,14 +1,13 @@
 -- `record_words` meets its contract: record i, where it lies whole in the table, is copied to the front of the row; a record outside leaves the zeros.
 use mathlib.Core.Path.{sym, ap, ◌∙◌}
 use mathlib.Core.List.{List}
-use Prim.Native.Nat.{ℕ, ◌*◌, ◌-◌}
+use Prim.Native.Nat.{ℕ, ◌*◌}
 use native.Mathlib.Nat.{add-sub_cancel_left}
 use native.Mathlib.Omega.{arith}
 use lib.ListN.{length, get_or, take, drop, replicate, get_or-replicate}
 use Rattle.words.specs.Splice.{splice}
 use Rattle.tables.specs.Records.{type_width}
 use Rattle.tables.proofs.Records.{record_inside, word_outside, word_of_row}
-use borrow.Author.Rules.{rules}
 use Rattle.tables.proofs.record_words.Goals as goal
 
 pub overflow_mul-at : goal.overflow_mul-at

@@ -3,7 +3,6 @@ use mathlib.Core.Path.{ap}
 use lib.ListN.{get_or}
 use Rattle.tables.specs.Records.{record_word, type_width, type_of, type_at}
 use Rattle.tables.proofs.Rows.{same_words}
-use borrow.Author.Rules.{rules}
 use Rattle.tables.proofs.type_at.Goals as goal
 
 pub returns : goal.returns

@@ -1,7 +1,6 @@
 -- `in_place` meets its contract: one law for each source.
 use mathlib.Core.Path.{sym, ◌∙◌}
 use Rattle.reflection.proofs.Texts.{place_in_chunk, place_in_edits, place_nowhere}
-use borrow.Author.Rules.{rules}
 use Rattle.reflection.proofs.names.in_place.Goals as goal
 
 pub returns-then-text-eq0 : goal.returns-then-text-eq0

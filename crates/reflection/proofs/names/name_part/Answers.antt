@@ -1,7 +1,6 @@
 -- `name_part` meets its contract: the part of the buffer that the source names, or the empty part.
 use mathlib.Core.Path.{sym, ◌∙◌}
 use Rattle.reflection.proofs.Texts.{bytes_in_chunk, bytes_in_edits, bytes_nowhere}
-use borrow.Author.Rules.{rules}
 use Rattle.reflection.proofs.names.name_part.Goals as goal
 
 pub returns-then-name-eq0 : goal.returns-then-name-eq0

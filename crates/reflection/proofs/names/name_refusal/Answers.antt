@@ -1,7 +1,6 @@
 -- `name_refusal` meets its contract: the answer goes by the test that `in_place` makes.
 use mathlib.Core.Path.{ap, sym, ◌∙◌}
 use Rattle.reflection.specs.Texts.{name_place}
-use borrow.Author.Rules.{rules}
 use Rattle.reflection.proofs.names.name_refusal.Goals as goal
 
 pub returns-then-in_place : goal.returns-then-in_place

@@ -3,7 +3,6 @@ use mathlib.Core.Path.{sym, ap, ◌∙◌}
 use Prim.Native.Nat.{ℕ}
 use lib.Dec.{eqb}
 use Rattle.reflection.proofs.Rd11Words.{sm5_is}
-use borrow.Author.Rules.{rules}
 use Rattle.reflection.proofs.rd11.is_sm5.Goals as goal
 
 pub returns : goal.returns

@@ -3,7 +3,6 @@ use mathlib.Core.Path.{sym, ap, ◌∙◌}
 use mathlib.Core.Bool.{true, false}
 use Rattle.reflection.specs.Reflection.{is_wide}
 use Rattle.reflection.proofs.Rd11Words.{rd11_by_sm5}
-use borrow.Author.Rules.{rules}
 use Rattle.reflection.proofs.rd11.is_wide.Goals as goal
 
 pub returns-then-is_sm5 : goal.returns-then-is_sm5

@@ -1,6 +1,5 @@
 -- `rd11_allowed` meets its contract: its tests are those of the definition, joined in the same order. Assumes nothing.
 use Rattle.reflection.specs.Rd11.{rd11_allowed}
-use borrow.Author.Rules.{rules}
 use Rattle.reflection.proofs.rd11.rd11_allowed.Goals as goal
 
 pub returns : goal.returns

@@ -43,7 +43,11 @@ pub returns-else-t-lt-U16_LIMIT-3 : goal.returns-else-t-lt-U16_LIMIT-3
 unfolding fields_fit
 returns-else-t-lt-U16_LIMIT-3 c =
     let t = c.args.t in
-    rw (lt-ltb t.class u16_limit c.if-t-lt-U16_LIMIT.true, lt-ltb t.var_type u16_limit c.if-t-lt-U16_LIMIT-2.true, le-ltb t.rows u16_limit c.if-t-lt-U16_LIMIT-3.false)
+    rw (
+      lt-ltb t.class u16_limit c.if-t-lt-U16_LIMIT.true,
+      lt-ltb t.var_type u16_limit c.if-t-lt-U16_LIMIT-2.true,
+      le-ltb t.rows u16_limit c.if-t-lt-U16_LIMIT-3.false,
+    )
 
 pub returns-else-t-lt-U16_LIMIT-2 : goal.returns-else-t-lt-U16_LIMIT-2
 unfolding fields_fit
