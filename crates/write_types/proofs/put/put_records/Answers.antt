@@ -1,0 +1,21 @@
+-- `put_records` meets its contract: nothing where there are no members, else padding and the words.
+use native.Mathlib.Omega.{arith}
+use Rattle.write_types.proofs.Putting.{padding_near, records_none, records_some}
+use Rattle.write_types.proofs.put.put_records.Goals as goal
+
+pub returns-then-records-eq0 : goal.returns-then-records-eq0
+returns-then-records-eq0 c = let args = c.args in
+    records_none args.records.now args.out.now args.at c.if-records-eq0.true
+
+pub put_word_bytes-end-requires : goal.put_word_bytes-end-requires
+put_word_bytes-end-requires c =
+    omega (arith, padding_near c.put_padding-start.ensures, c.requires)
+
+pub overflow_cast-result : goal.overflow_cast-result
+overflow_cast-result c =
+    omega (arith, padding_near c.put_padding-start.ensures, c.requires)
+
+pub returns : goal.returns
+returns c =
+    records_some c.args.records.now c.if-records-eq0.false c.put_padding-start.ensures
+    c.put_word_bytes-end.ensures

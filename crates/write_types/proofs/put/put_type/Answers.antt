@@ -1,0 +1,40 @@
+-- `put_type` meets its contract: the records, padding and the descriptor, one after the other.
+use native.Mathlib.Omega.{arith}
+use Prim.Native.Nat.{◌/◌}
+use lib.ListN.{length}
+use Rattle.tables.specs.Decode.{node_from_table}
+use Rattle.write_texts.specs.Scratch.{member_width}
+use Rattle.write_types.proofs.Putting.{padding_near, type_put}
+use Rattle.write_types.proofs.put.put_type.Goals as goal
+
+pub put_padding-start-requires : goal.put_padding-start-requires
+put_padding-start-requires c =
+    omega (arith, c.put_records-members.ensures.near, c.requires)
+
+pub overflow_cast-count : goal.overflow_cast-count
+overflow_cast-count c = omega (arith, c.requires)
+
+pub put_descriptor-end-requires : goal.put_descriptor-end-requires
+put_descriptor-end-requires c =
+    omega (
+      arith,
+      padding_near c.put_padding-start.ensures,
+      c.put_records-members.ensures.near,
+      c.requires,
+    )
+
+pub overflow_cast-result : goal.overflow_cast-result
+overflow_cast-result c =
+    omega (
+      arith,
+      padding_near c.put_padding-start.ensures,
+      c.put_records-members.ensures.near,
+      c.requires,
+    )
+
+pub returns : goal.returns
+returns c =
+    let args = c.args in
+    type_put args.sm5 (node_from_table args.node).numbers args.name (length args.records.now / member_width) args.records.now
+    (λ count e. omega (arith, e)) c.put_records-members.ensures c.put_padding-start.ensures
+    c.put_descriptor-end.ensures
