@@ -1,14 +1,14 @@
 -- Equal types, as the code's tests follow it: the first part that differs decides, and where all agree the rest does.
 use mathlib.Core.Path.{◌≡◌, refl, sym, ap, ◌∙◌}
 use mathlib.Core.Bool.{Bool, true, false, ◌&&◌, not}
-use mathlib.Core.List.{List, [], ◌∷◌}
+use mathlib.Core.List.{List}
 use Prim.Native.Nat.{ℕ, ◌+◌, ◌-◌}
 use borrow.Author.Tests.{eq-eqb, ne_eqb}
 use lib.Dec.{eqb}
 use Rattle.text.specs.Same.{same_bytes}
 use Rattle.reflection.specs.declared.Text.{Text}
 use Rattle.reflection.specs.declared.TypeDesc.{TypeDesc as TypeRecord}
-use Rattle.reflection.specs.Reflection.{TypeNumbers, TypeDesc, type_desc, Members, no_member, member}
+use Rattle.reflection.specs.Reflection.{Members, no_member}
 use Rattle.tables.specs.Records.{type_at}
 use Rattle.tables.specs.Decode.{node_from_table}
 use Rattle.write_spec.specs.Same.{numbers_of, same_type, same_members}

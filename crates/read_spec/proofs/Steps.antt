@@ -1,7 +1,7 @@
 -- How a step of reading goes on, and that a refusal ends the walk: each law is one case of the step's definition.
-use mathlib.Core.Path.{◌≡◌, refl, sym, ap, ◌∙◌}
+use mathlib.Core.Path.{◌≡◌, refl, ap}
 use mathlib.Core.Bool.{Bool, true, false}
-use mathlib.Core.List.{List, [], ◌∷◌}
+use mathlib.Core.List.{List}
 use Prim.Native.Nat.{ℕ, zero, suc, ◌+◌}
 use lib.ListN.{length}
 use Rattle.text.specs.declared.Found.{Found}
@@ -10,7 +10,7 @@ use Rattle.reflection.specs.declared.Text.{Text}
 use Rattle.reflection.specs.Outcome.{Outcome, ok, refused, because}
 use Rattle.reflection.specs.Refusals.{no_room}
 use Rattle.reflection.specs.Strides.{member_stride}
-use Rattle.reflection.specs.Reflection.{TypeDesc, Members, no_member, member, member_count}
+use Rattle.reflection.specs.Reflection.{TypeDesc, member_count}
 use Rattle.reflection.specs.Texts.{in_chunk}
 use Rattle.read_spec.specs.Step.{Room, room, ReadStep, and_then, ◌>>=◌, return, refuse, check, text_or, take_binding, take_buffer, take_variable, take_type}
 use Rattle.read_spec.specs.Read.{read_many, read_members}

@@ -1,5 +1,5 @@
 -- How the numbers of records grow in a turn of each walk: by its own record, and by what the walk below it read.
-use Prim.Native.Nat.{ℕ, ◌<◌}
+use Prim.Native.Nat.{◌<◌}
 use native.Mathlib.Omega.{arith}
 use Rattle.read_spec.specs.declared.Counts.{Counts}
 use Rattle.read_types.specs.Walked.{AllGrew}

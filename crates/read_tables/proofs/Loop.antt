@@ -1,6 +1,6 @@
 -- The loop of a walk over n records of one stride: what is left to read decides the outcome. One law over the record and its stride serves
 -- bindings, variables and buffers: each way out of a loop, and each turn, follows from what reading one record appends.
-use mathlib.Core.Path.{◌≡◌, refl, sym, ap, ◌∙◌}
+use mathlib.Core.Path.{◌≡◌, sym, ap, ◌∙◌}
 use Prim.Native.Nat.{ℕ, ◌+◌, ◌-◌, ◌≤◌, ◌<◌}
 use Rattle.reflection.specs.declared.Refusal.{Refusal}
 use Rattle.read_spec.specs.declared.Counts.{Counts}

@@ -5,14 +5,12 @@ use Prim.Native.Nat.{ℕ}
 use native.Mathlib.Omega.{arith}
 use lib.ListN.{length, replicate}
 use Rattle.words.specs.Parts.{part}
-use Rattle.reflection.specs.declared.Text.{Text}
 use Rattle.reflection.specs.declared.Refusal.{Refusal}
 use Rattle.reflection.specs.Limits.{binding_table, buffer_table, variable_table, type_table}
 use Rattle.reflection.specs.Outcome.{Outcome, ok, refused}
-use Rattle.reflection.specs.Reflection.{ResourceDef}
 use Rattle.tables.specs.Tables.{table, binding_rows, buffer_rows, variable_rows, type_rows}
 use Rattle.reflection.specs.Contents.{Bytes}
-use Rattle.read_spec.specs.Step.{Room, room_of, full_room}
+use Rattle.read_spec.specs.Step.{room_of, full_room}
 use Rattle.read_spec.specs.Read.{read}
 use Rattle.read.specs.declared.Parsed.{Parsed}
 use Rattle.read.specs.Parsed.{parsed_of, read_into}

@@ -3,24 +3,22 @@
 -- `parse_rdef` finds it.
 use mathlib.Core.Path.{◌≡◌, refl, sym, ap, subst, ◌∙◌}
 use mathlib.Core.Bool.{Bool, true, false, cond}
-use mathlib.Core.List.{List, [], map}
+use mathlib.Core.List.{[], map}
 use mathlib.Core.Option.{Option, none, some}
 use Prim.Native.Nat.{ℕ, ◌<◌, ◌≤◌}
 use native.Mathlib.Omega.{arith}
 use lib.Dec.{leb}
-use lib.ListN.{length, get_or, take, drop, replicate}
+use lib.ListN.{length, get_or, take, drop}
 use lib.Seq.{get_or-take}
 use Rattle.reflection.specs.Refusals.{not_readable, no_room}
 use Rattle.words.specs.Splice.{splice}
 use Rattle.words.proofs.Splice.{length_splice}
 use Rattle.reflection.specs.declared.Text.{Text}
 use Rattle.reflection.specs.declared.Refusal.{Refusal}
-use Rattle.reflection.specs.declared.ResourceDef.{ResourceDef as Header}
-use Rattle.reflection.specs.Limits.{binding_table, buffer_table, variable_table, type_table}
+use Rattle.reflection.specs.Limits.{variable_table}
 use Rattle.reflection.specs.Outcome.{Outcome, ok, refused, because}
 use Rattle.reflection.specs.Reflection.{ResourceDef}
 use Rattle.tables.specs.Tables.{table, variable_rows, header_of}
-use Rattle.reflection.specs.Reflection.{all_variables}
 use Rattle.reflection.specs.Texts.{text_bytes}
 use Rattle.reflection.specs.Contents.{Bytes, defaults_of}
 use Rattle.read_spec.specs.Step.{full_room}
@@ -32,14 +30,14 @@ use Rattle.write_spec.specs.Canonical.{canonical}
 use Rattle.write_spec.specs.Outcome.{scratch_size, canonical_or16, write}
 use Rattle.theorem_round_trip.specs.RoundTrip.{NumbersAreWords}
 use Rattle.theorem_round_trip.proofs.HeldWords.{WordTable, HeaderWords, held_words}
-use Rattle.theorem_noninterference.specs.Noninterference.{SameButDefaults, Covered, DefaultsAt, Alike as FormsAlike, Indistinguishable}
+use Rattle.theorem_noninterference.specs.Noninterference.{SameButDefaults, Covered, Alike as FormsAlike, Indistinguishable}
 use Rattle.theorem_noninterference.specs.Noninterference.{both_refused as forms-refused, both_written as forms-written}
 use Rattle.theorem_noninterference.proofs.Noninterference.{canonical_noninterference}
 use Rattle.theorem_functions.specs.declared.WrittenAndRead.{WrittenAndRead}
 use Rattle.theorem_functions.specs.declared.WrittenAndRead.TheVariants.{Wrote, Refused}
 use Rattle.theorem_functions.specs.declared.WrittenPair.{WrittenPair}
 use Rattle.theorem_functions.specs.Calls.{Lent, Left, reflection_in, form, read_back, written_and_read, WroteAndRead}
-use Rattle.theorem_functions.specs.Noninterference.{SharedButDefaults, Shared, places_found, defaults_held, RefusedSide, WrittenSide, SidesAlike}
+use Rattle.theorem_functions.specs.Noninterference.{SharedButDefaults, Shared, places_found, defaults_held, RefusedSide, WrittenSide}
 use Rattle.theorem_functions.specs.Noninterference.{SameAnswers, both_refused, both_written}
 use Rattle.theorem_functions.proofs.Written.{WrittenForm, written_form, written_start, written_rest}
 use Rattle.theorem_functions.proofs.Found.{places_read}

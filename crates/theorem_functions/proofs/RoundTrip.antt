@@ -1,16 +1,13 @@
 -- ROUND TRIP (specs/RoundTrip.antt), proved over the definitions that the contracts cite: by the round trip of the canonical form (crate theorem_round_trip),
 -- since tables of words hold reflections whose numbers are words, and since what reading leaves in tables is held there whole (crate readable).
 use mathlib.Core.Path.{◌≡◌, refl, sym, ap, subst, ◌∙◌}
-use mathlib.Core.Bool.{Bool, true, false, cond}
-use mathlib.Core.Logic.{◌⊎◌, inl, inr}
+use mathlib.Core.Bool.{Bool, true, false}
 use mathlib.Core.List.{List, [], ◌∷◌}
-use mathlib.Core.Option.{Option, none, some}
+use mathlib.Core.Option.{some}
 use Prim.Native.Nat.{ℕ, zero, suc, ◌<◌, ◌≤◌, min}
 use native.Mathlib.Omega.{arith}
 use borrow.Author.Tests.{le-leb, lt-leb}
-use lib.Dec.{leb}
 use lib.ListN.{length, get_or, take, drop, replicate, length-replicate}
-use lib.Seq.{get_or-take}
 use Rattle.reflection.specs.Refusals.{output_too_small}
 use Rattle.words.specs.Parts.{inside, part}
 use Rattle.words.specs.Splice.{splice}
@@ -20,7 +17,7 @@ use Rattle.reflection.specs.declared.ResourceDef.{ResourceDef as Header}
 use Rattle.reflection.specs.Limits.{binding_table, buffer_table, variable_table, type_table, chunk_limit}
 use Rattle.reflection.specs.Outcome.{Outcome, ok, refused, because}
 use Rattle.reflection.specs.Reflection.{ResourceDef}
-use Rattle.tables.specs.Tables.{table, padded, binding_rows, buffer_rows, variable_rows, type_rows, header_of}
+use Rattle.tables.specs.Tables.{table, binding_rows, buffer_rows, variable_rows, type_rows, header_of}
 use Rattle.reflection.specs.Contents.{Bytes, contents}
 use Rattle.read_spec.specs.Step.{full_room}
 use Rattle.read_spec.specs.Read.{read}
@@ -28,7 +25,6 @@ use Rattle.read.specs.declared.Parsed.TheVariants.{Read, Refused as NotRead}
 use Rattle.read.specs.Parsed.{parsed_of}
 use Rattle.readable.specs.Readable.{table_contents, readable_contents}
 use Rattle.readable.proofs.Reading.{AtMostFull, read_held}
-use Rattle.text_output.specs.declared.Written.TheVariants.{Wrote as WroteAgain, Refused as RefusedAgain}
 use Rattle.text_output.specs.Written.{fitting, written_of, output_of}
 use Rattle.write_spec.specs.Canonical.{canonical}
 use Rattle.write_spec.specs.Outcome.{write}
