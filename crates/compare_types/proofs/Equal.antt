@@ -42,7 +42,8 @@ and-false true = refl
 and-false false = refl
 
 -- The type at node a of one table and the type at node b of another, whose records are x and y.
-module _ (same : Text → Text → Bool) (types others : List ℕ) (levels a b : ℕ) {x y : TypeRecord} (is_x : x ≡ type_at types a) (is_y : y ≡ type_at others b) where
+module _ (same : Text → Text → Bool) (types others : List ℕ) (levels a b : ℕ) {x y : TypeRecord}
+    (is_x : x ≡ type_at types a) (is_y : y ≡ type_at others b) where
   abbrev equal_types : Bool
   equal_types = same_type same (type_tree types levels a) (type_tree others levels b)
 

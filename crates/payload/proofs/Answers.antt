@@ -16,7 +16,7 @@ use Rattle.reflection.specs.Contents.{Bytes}
 use Rattle.readable.specs.Readable.{is_readable}
 use Rattle.text_output.specs.Written.{written_of, output_of}
 use Rattle.write_spec.specs.Outcome.{scratch_size, canonical_or16, write}
-use Rattle.write_spec.specs.Payload.{whole_chunk, written, as_part, payload_of, payload}
+use Rattle.write_spec.specs.Payload.{whole_chunk, as_part, payload_of, payload}
 use Rattle.payload.specs.Answer.{room_enough, payload_with, payload_answer, payload_output, unedited_held, written_answer}
 
 -- What the test of the room says.

@@ -3,7 +3,7 @@
 use mathlib.Core.Path.{◌≡◌, sym, ap, ◌∙◌}
 use mathlib.Core.Bool.{false}
 use mathlib.Core.List.{List, []}
-use mathlib.Core.Option.{Option, some-injective}
+use mathlib.Core.Option.{some-injective}
 use Prim.Native.Nat.{ℕ, ◌/◌, ◌≤◌, ◌<◌, min}
 use native.Mathlib.Omega.{arith}
 use lib.ListN.{length, get_or}
@@ -49,7 +49,8 @@ full_room_lem b f v t b-long f-long v-long t-long =
     λ i. room (p i) (q i) (r i) (s i)
 
 -- What was read into the tables `found`, and so is in them.
-module _ (chunk : Bytes) (bytes : (i : ℕ) → get_or chunk i 0 < 256) (b f v t : List ℕ) {nb nf nv nt : ℕ} {h : Header} {bindings buffers variables types : List ℕ}
+module _ (chunk : Bytes) (bytes : (i : ℕ) → get_or chunk i 0 < 256) (b f v t : List ℕ) {nb nf nv nt : ℕ}
+    {h : Header} {bindings buffers variables types : List ℕ}
     (found : Held (read_into chunk b f v t) nb nf nv nt h bindings buffers variables types) where
   pub found_readable : Readable chunk [] h bindings buffers variables types
   unfolding read_into

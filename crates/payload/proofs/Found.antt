@@ -91,7 +91,8 @@ module _ (s edits : Bytes) where
   tables_same creator c words r =
       let P : ResourceDef Text Text → Type 0 = λ d. contents s [] d ≡ contents s edits d in
       then_gives (λ bs. map (map_binding f) bs ≡ map (map_binding g) bs) P _ _ (many_same (map_binding f) (map_binding g) _ (binding_same _) _ _ _) (λ bs o.
-      then_gives (λ cs. map (map_buffer f f) cs ≡ map (map_buffer g g) cs) P _ _ (many_same (map_buffer f f) (map_buffer g g) _ (buffer_same _) _ _ _) (λ cs q w.
+      then_gives (λ cs. map (map_buffer f f) cs ≡ map (map_buffer g g) cs) P _ _
+      (many_same (map_buffer f f) (map_buffer g g) _ (buffer_same _) _ _ _) (λ cs q w.
       equal_defs _ _ refl refl c o q)) r
 
   chunk_same : (r : Room) → Gives (λ d. contents s [] d ≡ contents s edits d) (read_chunk s r)

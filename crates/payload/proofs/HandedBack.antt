@@ -66,7 +66,8 @@ module _
 
   pub unedited_hands_chunk : (nb nf nv nt : ℕ)
       → payload out chunk
-      (table_contents chunk edits (header_of d) (padded nb (binding_rows d)) (padded nf (buffer_rows d)) (padded nv (variable_rows d)) (padded nt (type_rows d)))
+      (table_contents chunk edits (header_of d) (padded nb (binding_rows d)) (padded nf (buffer_rows d))
+      (padded nv (variable_rows d)) (padded nt (type_rows d)))
       ≡ ok whole_chunk
   unfolding payload payload_of
   unedited_hands_chunk nb nf nv nt =

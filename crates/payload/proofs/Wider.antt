@@ -11,7 +11,7 @@ use Rattle.reflection.specs.declared.Text.{Text}
 use Rattle.reflection.specs.Outcome.{Outcome, ok, refused}
 use Rattle.reflection.specs.Reflection.{TypeDesc, Rd11, ResourceDef}
 use Rattle.tables.specs.Nodes.{type_levels}
-use Rattle.read_spec.specs.Step.{Room, room, ReadStep, and_then, ◌>>=◌, return, refuse, check, text_or, one_less, take_binding, take_buffer, take_variable, take_type}
+use Rattle.read_spec.specs.Step.{Room, ReadStep, and_then, ◌>>=◌, return, refuse, check, text_or, one_less, take_binding, take_buffer, take_variable, take_type}
 use Rattle.read_spec.specs.Read.{read_many, read_members, read_type, read_variable, variable_stride}
 use Rattle.read_spec.specs.Read.{read_binding, read_buffer, read_rd11, read_tables, read_chunk, without_room, read}
 

@@ -1,6 +1,6 @@
 -- What `parse_rdef` leaves: clearing a table after its records, or whole on a refusal, makes it the table of the outcome, since the records take
 -- as many words as the header counts. One law over the table's rows serves all four.
-use mathlib.Core.Path.{◌≡◌, refl, sym, ap, subst, ◌∙◌}
+use mathlib.Core.Path.{◌≡◌, sym, ap, subst, ◌∙◌}
 use mathlib.Core.List.{List, ◌++◌}
 use Prim.Native.Nat.{ℕ, ◌*◌, ◌-◌}
 use native.Mathlib.Omega.{arith}

@@ -12,7 +12,7 @@ use Rattle.reflection.specs.Strides.{buffer_stride}
 use Rattle.reflection.specs.declared.Text.{Text}
 use Rattle.reflection.specs.declared.ResourceDef.{ResourceDef as Header}
 use Rattle.reflection.specs.Outcome.{Outcome, ok, refused}
-use Rattle.reflection.specs.Reflection.{TypeDesc, Rd11, rd11, CBufferVariable, ResourceDef, major_of}
+use Rattle.reflection.specs.Reflection.{TypeDesc, Rd11, CBufferVariable, ResourceDef, major_of}
 use Rattle.tables.specs.Nodes.{type_levels}
 use Rattle.tables.proofs.Levels.{Fits, FitsAll}
 use Rattle.tables.specs.Tables.{header_of}

@@ -1,7 +1,7 @@
 -- The header's ways out, in the order of the checks: what `readChunk` comes to at each. Every check but the last holds, and the steps' laws take
 -- them one at a time.
 use mathlib.Core.Path.{◌≡◌, refl, sym, ap, subst, ◌∙◌}
-use mathlib.Core.Bool.{Bool, true, false, ◌&&◌, ◌||◌}
+use mathlib.Core.Bool.{Bool, true, false, ◌||◌}
 use mathlib.Core.List.{List}
 use Prim.Native.Nat.{ℕ, zero, suc, ◌+◌, ◌≤◌, ◌<◌}
 use native.Mathlib.Omega.{arith}
@@ -17,9 +17,9 @@ use Rattle.reflection.specs.Strides.{header_size, rd11_header_size, binding_stri
 use Rattle.reflection.specs.Refusals.{chunk_too_short, chunk_too_long, bad_version, bad_creator, rd11_missing, bad_rd11}
 use Rattle.reflection.specs.declared.Text.{Text}
 use Rattle.reflection.specs.Outcome.{Outcome, ok, refused, because}
-use Rattle.reflection.specs.Reflection.{Rd11, ResourceDef, is_wide}
+use Rattle.reflection.specs.Reflection.{Rd11, is_wide}
 use Rattle.reflection.specs.Texts.{in_chunk}
-use Rattle.read_spec.specs.Step.{Room, ReadStep, and_then, ◌>>=◌, return, text_or}
+use Rattle.read_spec.specs.Step.{Room, and_then, ◌>>=◌, return, text_or}
 use Rattle.read_spec.specs.Read.{major_of, chunk_rd11_allowed, read_rd11, read_tables, read_chunk}
 use Rattle.read_spec.proofs.Steps.{check_holds, check_fails, bind_is, text_found, text_bad}
 use Rattle.read.specs.Header.{rd11_from_chunk, rd11_fault}

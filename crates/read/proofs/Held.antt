@@ -1,10 +1,10 @@
 -- What a caller has of `parse_rdef`, from the five clauses of its contract: an answer with a header means that the chunk reads as one reflection, whose
 -- header this is and whose rows the four tables hold, zeros after them; a refusal means that it does not read, and that the tables are zeros.
-use mathlib.Core.Path.{◌≡◌, sym, ap, ◌∙◌}
+use mathlib.Core.Path.{◌≡◌}
 use mathlib.Core.List.{List}
 use Prim.Native.Nat.{ℕ}
 use native.Mathlib.Omega.{arith}
-use lib.ListN.{length, replicate}
+use lib.ListN.{replicate}
 use Rattle.reflection.specs.declared.Text.{Text}
 use Rattle.reflection.specs.declared.Refusal.{Refusal}
 use Rattle.reflection.specs.declared.ResourceDef.{ResourceDef as Header}

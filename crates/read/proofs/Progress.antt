@@ -6,7 +6,7 @@ use native.Mathlib.Omega.{arith}
 use Rattle.reflection.specs.declared.Refusal.{Refusal}
 use Rattle.reflection.specs.Outcome.{Outcome, ok, refused}
 use Rattle.read_spec.specs.Step.{Room}
-use Rattle.read_types.specs.Progress.{Progress, stopped, reached, progress}
+use Rattle.read_types.specs.Progress.{stopped, reached, progress}
 
 -- What was read, whose words after s are w, with the room r left.
 pub record WasRead {A S : Type 0} (append : A → S → S) (x : Outcome (A × Room)) (s w : S) (r : Room) : Type 0 where

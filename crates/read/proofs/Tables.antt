@@ -2,7 +2,7 @@
 -- is its first step and the walk of the buffers its second; what the walks appended are the rows of what was read, so the counts are its numbers of records.
 use mathlib.Core.Path.{◌≡◌, refl, sym, ap, subst, ◌∙◌}
 use mathlib.Core.Bool.{Bool, true, false}
-use mathlib.Core.List.{List, [], ◌∷◌}
+use mathlib.Core.List.{List, []}
 use Prim.Native.Nat.{ℕ, ◌*◌, ◌-◌, ◌/◌, ◌≤◌, ◌<◌, min}
 use native.Mathlib.Nat.{mul_comm, mul-le-mul_right, div-mul-le_self, eq_of_mul-eq-mul_left}
 use native.Mathlib.Omega.{arith}
@@ -31,14 +31,13 @@ use Rattle.read_types.specs.Progress.{Progress, progress, append_all}
 use Rattle.read_types.specs.Walked.{room_left, answered, AllGrew, GrewTo, Walked}
 use Rattle.read_tables.specs.Bindings.{append_binding, bindings_progress, bindings_in, up_to_bindings}
 use Rattle.read_tables.specs.Buffers.{TableWords, append_buffer, buffers_progress, buffers_in, up_to_buffers}
-use Rattle.read.specs.declared.Parsed.{Parsed}
 use Rattle.read.specs.declared.Parsed.TheVariants.{Read, Refused}
 use Rattle.read.specs.declared.ChunkHeader.{ChunkHeader}
 use Rattle.read.specs.declared.ChunkHeader.TheVariants.{Valid, Invalid}
 use Rattle.read.specs.Parsed.{parsed_of, read_into}
 use Rattle.read.specs.Header.{rd11_from_chunk, Headed}
 use Rattle.read.specs.Filled.{rows_of, Filled}
-use Rattle.read.proofs.Rows.{rows_of_all, rows_length, binding_width_lem, buffer_width_lem, variable_width_lem}
+use Rattle.read.proofs.Rows.{rows_length, binding_width_lem, buffer_width_lem, variable_width_lem}
 use Rattle.read.proofs.Rows.{type_width_lem, bindings_append_rows, buffers_append_rows}
 use Rattle.read.proofs.Progress.{WasRead, stopped_refused, reached_read}
 

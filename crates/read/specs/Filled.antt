@@ -1,9 +1,8 @@
 -- Vocabulary of internal contracts: no contract of an exported function and no demand cites it.
 -- What `read_tables` leaves: the answer, and in each table the records, whatever follows them.
-use Rattle.std.specs.Prelude.{◌≡◌, List, ℕ, ◌*◌, length, take}
+use Rattle.std.specs.Prelude.{◌≡◌, List, ℕ, ◌*◌, take}
 use Rattle.reflection.specs.Limits.{binding_width, buffer_width, variable_width, type_width}
 use Rattle.reflection.specs.declared.Text.{Text}
-use Rattle.reflection.specs.declared.ResourceDef.{ResourceDef as Header}
 use Rattle.reflection.specs.Outcome.{Outcome, ok, refused}
 use Rattle.reflection.specs.Reflection.{ResourceDef}
 use Rattle.tables.specs.Tables.{binding_rows, buffer_rows, variable_rows, type_rows}

@@ -5,8 +5,7 @@ use Rattle.words.specs.Words.{word_at}
 use Rattle.reflection.specs.Limits.{chunk_limit}
 use Rattle.reflection.specs.Strides.{rd11_header_size}
 use Rattle.reflection.specs.Refusals.{rd11_missing, bad_rd11}
-use Rattle.reflection.specs.declared.Text.{Text}
-use Rattle.reflection.specs.Outcome.{Outcome, ok, refused}
+use Rattle.reflection.specs.Outcome.{refused}
 use Rattle.reflection.specs.Reflection.{Rd11, no_rd11, rd11, is_wide}
 use Rattle.read_spec.specs.Step.{Room}
 use Rattle.read_spec.specs.Read.{read_chunk, read_tables, chunk_rd11_allowed}

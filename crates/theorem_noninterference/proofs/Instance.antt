@@ -15,7 +15,6 @@ use Rattle.reflection.specs.Rd11
 use Rattle.reflection.specs.Reflection
 use Rattle.reflection.specs.Reflection.{ResourceDef}
 use Rattle.tables.specs.Nodes
-use Rattle.tables.specs.Tables
 use Rattle.reflection.specs.Contents
 use Rattle.reflection.specs.Contents.{Bytes}
 use Rattle.readable.specs.Readable

@@ -2,7 +2,6 @@
 -- start.
 use mathlib.Core.Path.{◌≡◌, refl, sym, ap, ◌∙◌}
 use mathlib.Core.Bool.{Bool, true, false, cond}
-use mathlib.Core.List.{List, [], ◌++◌}
 use mathlib.Core.Option.{some}
 use Prim.Native.Nat.{ℕ, ◌+◌, ◌≤◌, min}
 use native.Mathlib.Omega.{arith}
@@ -17,13 +16,13 @@ use Rattle.reflection.specs.Refusals.{no_room, output_too_small}
 use Rattle.reflection.specs.Outcome.{Outcome, ok, refused, because}
 use Rattle.reflection.specs.Reflection.{ResourceDef}
 use Rattle.reflection.specs.Contents.{Bytes}
-use Rattle.text_output.specs.declared.Written.TheVariants.{Wrote, Refused}
+use Rattle.text_output.specs.declared.Written.TheVariants.{Wrote}
 use Rattle.text_output.specs.Written.{fits_in, fitting, written_of, output_of}
 use Rattle.write_spec.specs.Canonical.{canonical}
 use Rattle.write_spec.specs.Outcome.{scratch_size, canonical_or16, write}
 use Rattle.theorem_round_trip.specs.RoundTrip.{NumbersAreWords}
 use Rattle.theorem_noninterference.proofs.Noninterference.{canonical_noninterference}
-use Rattle.theorem_noninterference.specs.Noninterference.{SameButDefaults, Indistinguishable, both_refused, both_written, Alike}
+use Rattle.theorem_noninterference.specs.Noninterference.{SameButDefaults, Indistinguishable, both_refused, both_written}
 use Rattle.theorem_noninterference.specs.Outputs.{answer_of, output_after, OutputsAlike, both_refused as outputs-refused, both_written as outputs-written}
 
 -- What was written fits the output.

@@ -1,7 +1,7 @@
 -- Of the defaults, whether a reflection is readable depends on their lengths alone, and whether its numbers are words depends on nothing. Shown of one
 -- reflection whose defaults stand for bytes in two ways, g and g'.
 use mathlib.Core.Path.{◌≡◌, refl, ap, sym, ◌∙◌}
-use mathlib.Core.List.{List, [], ◌∷◌, ◌++◌, map, map-append}
+use mathlib.Core.List.{List, [], ◌∷◌, ◌++◌, map}
 use mathlib.Core.Bool.{Bool, ◌&&◌, ◌||◌}
 use Prim.Native.Nat.{ℕ, ◌+◌}
 use lib.Dec.{eqb, leb}

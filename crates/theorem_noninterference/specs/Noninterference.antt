@@ -6,7 +6,7 @@
 --
 -- Definitions that this rests on: a reflection (`ResourceDef`, crate reflection), `read` (crate read_spec), `write`, the canonical writer's whole answer
 -- (crate write_spec), which the contract of `write_rdef_canonical` cites.
-use Rattle.std.specs.Prelude.{◌≡◌, ◌⊎◌, List, [], ◌∷◌, map, ℕ, ◌+◌, ◌<◌, ◌≤◌, length, get_or, replicate}
+use Rattle.std.specs.Prelude.{◌≡◌, ◌⊎◌, List, [], ◌∷◌, map, ℕ, ◌+◌, ◌<◌, ◌≤◌, length, get_or}
 use Rattle.std.proofs.Math.Option.{some}
 use Rattle.text.specs.Same.{same_bytes}
 use Rattle.reflection.specs.declared.Text.{Text}

@@ -17,7 +17,6 @@ use Rattle.reflection.specs.Reflection.{ResourceDef, rd11}
 use Rattle.reflection.specs.Texts
 use Rattle.reflection.specs.Texts.{in_chunk}
 use Rattle.tables.specs.Nodes
-use Rattle.tables.specs.Tables
 use Rattle.reflection.specs.Contents
 use Rattle.reflection.specs.Rd11
 use Rattle.reflection.specs.Contents.{Bytes, contents}

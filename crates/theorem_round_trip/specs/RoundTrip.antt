@@ -2,10 +2,10 @@
 -- ROUND TRIP (document 01, demand 2: what is written reads back with every field restored and writes the same bytes again). `Restored r` says of a
 -- reflection's canonical form: it reads; what is read has every number, name and default of r; each text lies where the layout put that text's cells; each
 -- default lies where the layout's result says; and what was read is written as the same bytes. proofs/RoundTrip.antt proves it of all that is readable.
-use Rattle.std.specs.Prelude.{◌≡◌, List, [], ◌∷◌, ◌++◌, map, ℕ, zero, suc, ◌<◌, ◌≤◌, length, take, drop}
+use Rattle.std.specs.Prelude.{◌≡◌, List, [], ◌∷◌, ◌++◌, ℕ, ◌<◌, length, take, drop}
 use Rattle.reflection.specs.declared.Text.{Text}
 use Rattle.reflection.specs.Outcome.{ok}
-use Rattle.reflection.specs.Reflection.{TypeNumbers, TypeDesc, type_desc, Members, no_member, member, CBufferVariable, CBufferDef, ResourceBinding}
+use Rattle.reflection.specs.Reflection.{TypeDesc, type_desc, Members, no_member, member, CBufferVariable, CBufferDef, ResourceBinding}
 use Rattle.reflection.specs.Reflection.{ResourceDef, map_def, slots_of, identifier_of, stride_of}
 use Rattle.reflection.specs.Texts.{in_chunk}
 use Rattle.reflection.specs.Contents.{Bytes, contents, defaults_of}

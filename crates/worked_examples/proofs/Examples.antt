@@ -14,7 +14,6 @@ use Rattle.reflection.specs.Rd11
 use Rattle.reflection.specs.Reflection
 use Rattle.reflection.specs.Texts
 use Rattle.tables.specs.Nodes
-use Rattle.tables.specs.Tables
 use Rattle.reflection.specs.Contents
 use Rattle.read_spec.specs.Step as ReadStep
 use Rattle.read_spec.specs.Read

@@ -1,7 +1,7 @@
 -- Chunks of document 01 that only the table speaks of, and what those that read hold. (Case V and its kin: crate write_spec, EdgeChunks.)
 use Rattle.std.specs.Prelude.{List, [], ◌∷◌, ◌++◌, ℕ, zero, suc, ◌+◌, replicate, set}
 use Rattle.reflection.specs.declared.Text.{Text}
-use Rattle.reflection.specs.Reflection.{TypeNumbers, TypeDesc, type_desc, Members, no_member, member, no_rd11, ResourceBinding, ResourceDef}
+use Rattle.reflection.specs.Reflection.{TypeDesc, type_desc, Members, no_member, member, no_rd11, ResourceBinding, ResourceDef}
 use Rattle.reflection.specs.Texts.{in_chunk}
 use Rattle.reflection.specs.Contents.{Bytes}
 use Rattle.text_output.specs.Ascii.{ascii}

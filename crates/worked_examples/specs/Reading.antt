@@ -6,7 +6,7 @@ use Rattle.reflection.specs.Reflection.{ResourceDef, no_member, member, rd11}
 use Rattle.reflection.specs.Texts.{in_chunk}
 use Rattle.reflection.specs.Contents.{Bytes}
 use Rattle.reflection.specs.Limits.{binding_room, buffer_room, variable_room, type_room}
-use Rattle.read_spec.specs.Step.{Room, room, full_room}
+use Rattle.read_spec.specs.Step.{room, full_room}
 use Rattle.write_spec.specs.EdgeChunks.{header, major4, major5, no_text, case_v, case_v5, float, globals, read_v}
 use Rattle.worked_examples.specs.Example.{Example, reads, refusal}
 use Rattle.worked_examples.specs.Chunks.{case_e, one_binding, with_type, struct_of, nested, twice, case_vdefault}

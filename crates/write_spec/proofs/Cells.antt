@@ -1,6 +1,5 @@
 -- A cell, of what its name or default stands for.
 use Rattle.write_spec.specs.Step.{Cell, byte, name_byte, default_byte}
-use Prim.Native.Nat.{ℕ}
 
 -- The same cell, of what its name or default stands for.
 unfoldable pub map_cell : {N D M E : Type 0} → (N → M) → (D → E) → Cell N D → Cell M E

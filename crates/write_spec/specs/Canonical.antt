@@ -1,5 +1,5 @@
 -- The canonical form of a reflection whose names and defaults are bytes: the layout's cells, filled in (document 01, "Canonical form").
-use Rattle.std.specs.Prelude.{List, map, ℕ, length, get_or}
+use Rattle.std.specs.Prelude.{map, ℕ, length, get_or}
 use Rattle.text.specs.Same.{same_bytes}
 use Rattle.reflection.specs.Reflection.{ResourceDef}
 use Rattle.reflection.specs.Contents.{Bytes}

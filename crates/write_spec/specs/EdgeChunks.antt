@@ -3,7 +3,7 @@
 use Rattle.std.specs.Prelude.{List, [], ◌∷◌, ◌++◌, ℕ}
 use Rattle.words.specs.Words.{word_bytes}
 use Rattle.reflection.specs.declared.Text.{Text}
-use Rattle.reflection.specs.Reflection.{TypeNumbers, TypeDesc, type_desc, no_member, Rd11, no_rd11, CBufferVariable, CBufferDef, ResourceDef, map_type}
+use Rattle.reflection.specs.Reflection.{TypeDesc, type_desc, no_member, Rd11, no_rd11, CBufferVariable, ResourceDef, map_type}
 use Rattle.reflection.specs.Texts.{in_chunk}
 use Rattle.reflection.specs.Contents.{Bytes}
 use Rattle.text_output.specs.Ascii.{ascii}

@@ -1,8 +1,8 @@
 -- The canonical form's layout: document 01, "Canonical form", in the order of the Rust's `write_rdef_canonical`.
-use Rattle.std.specs.Prelude.{Bool, true, false, ◌&&◌, List, [], ◌∷◌, ◌++◌, map, ℕ, zero, suc, ◌*◌, eqb, length}
+use Rattle.std.specs.Prelude.{Bool, true, ◌&&◌, List, [], ◌∷◌, ◌++◌, map, ℕ, ◌*◌, eqb, length}
 use Rattle.reflection.specs.Reflection.{TypeNumbers, TypeDesc, type_desc, Members, no_member, member, member_count, CBufferVariable, CBufferDef}
-use Rattle.reflection.specs.Reflection.{ResourceBinding, ResourceDef, is_sm5, is_wide}
-use Rattle.write_spec.specs.Step.{Cell, byte, name_byte, default_byte, TextFacts, Pools, pools, Placed, WriteStep, ◌>>=◌, return, append}
+use Rattle.reflection.specs.Reflection.{ResourceDef, is_sm5, is_wide}
+use Rattle.write_spec.specs.Step.{Cell, byte, name_byte, default_byte, TextFacts, pools, Placed, WriteStep, ◌>>=◌, return, append}
 use Rattle.write_spec.specs.Step.{add_to_pool, pad, word_cells, reserve, find, interned, add_to_pool_if, unless_empty, in_member_pool, add_outer_name}
 use Rattle.write_spec.specs.Step.{add_inner_name, add_type, add_default, cells_of}
 use Rattle.write_spec.specs.Records.{type_words_in_chunk, VariableOffsets, variable_words_in_chunk, variable_size, Section, buffer_words_in_chunk}

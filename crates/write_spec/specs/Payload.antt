@@ -1,6 +1,6 @@
 -- The payload: "where fields, names and defaults still equal those the chunk reads as, the chunk itself is handed back and the output buffer is untouched,
 -- else the output's written part" (document 01, "What a reflection holds").
-use Rattle.std.specs.Prelude.{Bool, true, false, cond, List, [], ℕ}
+use Rattle.std.specs.Prelude.{Bool, false, cond, [], ℕ}
 use Rattle.std.proofs.Math.Option.{Option, none, some}
 use Rattle.text.specs.Same.{same_bytes}
 use Rattle.reflection.specs.Refusals.{not_readable}

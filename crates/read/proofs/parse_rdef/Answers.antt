@@ -2,7 +2,6 @@
 use mathlib.Core.Path.{◌∙◌}
 use Rattle.read.specs.Parsed.{read_into}
 use Rattle.read.proofs.Cleared.{refused_parses, read_parses}
-use borrow.Author.Rules.{rules}
 use Rattle.read.proofs.parse_rdef.Goals as goal
 
 pub returns-in-Refused : goal.returns-in-Refused

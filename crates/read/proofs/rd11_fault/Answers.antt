@@ -2,7 +2,6 @@
 use mathlib.Core.Path.{◌≡◌, sym, ◌∙◌}
 use Rattle.read_spec.specs.Read.{chunk_rd11_allowed}
 use Rattle.read.proofs.Header.{fault_short, fault_not_allowed, fault_none}
-use borrow.Author.Rules.{rules}
 use Rattle.read.proofs.rd11_fault.Goals as goal
 
 pub returns-then-chunk : goal.returns-then-chunk

@@ -1,7 +1,6 @@
 -- `read_header` meets its contract: each way out is a law of the header, from the tests that led there. Assumes nothing.
-use mathlib.Core.Path.{◌≡◌, sym, ap, ◌∙◌}
+use mathlib.Core.Path.{◌≡◌, sym}
 use mathlib.Core.Bool.{true, false}
-use Prim.Native.Nat.{ℕ}
 use native.Mathlib.Omega.{arith}
 use lib.Dec.{eqb}
 use Rattle.words.specs.Words.{word_at}
@@ -12,7 +11,6 @@ use Rattle.read.specs.Header.{rd11_fault}
 use Rattle.read.proofs.Header.{known_major, major_at, known_is, major5_is, same_is, creator_is, creator_fits}
 use Rattle.read.proofs.Header.{refused_too_short, refused_too_long, refused_major, refused_creator, refused_rd11}
 use Rattle.read.proofs.Header.{valid_major5, valid_major4, wide_major5, wide_major4}
-use borrow.Author.Rules.{rules}
 use Rattle.read.proofs.read_header.Goals as goal
 
 pub returns-then-chunk : goal.returns-then-chunk

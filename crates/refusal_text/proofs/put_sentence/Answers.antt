@@ -2,7 +2,6 @@
 use mathlib.Core.Path.{refl, ◌∙◌}
 use Rattle.text_output.proofs.Lines.{entry_is}
 use Rattle.refusal_text.specs.Sentences.{sentences, sentence}
-use borrow.Author.Rules.{rules}
 use Rattle.refusal_text.proofs.put_sentence.Goals as goal
 
 pub returns : goal.returns

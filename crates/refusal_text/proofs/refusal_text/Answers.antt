@@ -1,7 +1,6 @@
 -- `refusal_text` meets its contract: the sentence was put from the output's start on, and `finish` tells whether it fitted.
 use mathlib.Core.Path.{refl}
 use Rattle.text_output.proofs.Fitting.{finished_answers}
-use borrow.Author.Rules.{rules}
 use Rattle.refusal_text.proofs.refusal_text.Goals as goal
 
 pub returns : goal.returns

@@ -1,12 +1,8 @@
 -- `clear`: after each turn the first i bytes are 0; at the end i is the length.
-use mathlib.Core.Path.{◌≡◌, refl, ap, sym, ◌∙◌}
-use Prim.Native.Nat.{ℕ, ◌-◌, ◌≤◌}
-use native.Mathlib.Nat.{sub-zero}
-use native.Mathlib.Omega.{arith}
-use lib.ListN.{length, replicate, length-set, length-replicate}
+use mathlib.Core.Path.{◌≡◌}
+use Prim.Native.Nat.{◌-◌, ◌≤◌}
+use lib.ListN.{length, replicate}
 use Rattle.words.specs.Splice.{splice}
-use Rattle.words.proofs.Splice.{splice_nil}
-use Rattle.words.proofs.Splice.{splice_to_end, splice_replicate_more}
 use Rattle.text_output.proofs.clear.Given as goal
 
 abbrev pub invariant-loop-i : goal.invariant-loop-i

@@ -5,7 +5,6 @@ use borrow.Author.Tests.{le-leb, lt-leb}
 use lib.ListN.{length}
 use Rattle.text_output.specs.Written.{written_of, output_of}
 use Rattle.text_output.specs.Cursor.{finished, kept}
-use borrow.Author.Rules.{rules}
 use Rattle.reflection.specs.Limits.{chunk_limit}
 use Rattle.text_output.proofs.finish.Goals as goal
 

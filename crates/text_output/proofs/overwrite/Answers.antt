@@ -1,9 +1,6 @@
-use borrow.Author.Rules.{rules}
-use mathlib.Core.Path.{◌≡◌, refl, sym, ◌∙◌}
-use Prim.Native.Nat.{◌-◌, ◌≤◌}
+use mathlib.Core.Path.{refl, sym, ◌∙◌}
 use native.Mathlib.Omega.{arith}
-use lib.ListN.{length, take, length-set}
-use Rattle.words.specs.Splice.{splice}
+use lib.ListN.{length-set}
 use Rattle.words.proofs.Splice.{splice_nil}
 use Rattle.words.proofs.Splice.{splice_past_end, splice_enough, splice_take_more}
 use Rattle.text_output.proofs.overwrite.Goals as goal

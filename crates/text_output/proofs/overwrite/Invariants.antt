@@ -1,12 +1,8 @@
 -- `overwrite`: after each turn the first i bytes are written; at the end i is the number of bytes or the room, and the rest has no room.
-use borrow.Author.Rules.{rules}
-use mathlib.Core.Path.{◌≡◌, refl, sym, ◌∙◌}
+use mathlib.Core.Path.{◌≡◌}
 use Prim.Native.Nat.{◌-◌, ◌≤◌}
-use native.Mathlib.Omega.{arith}
-use lib.ListN.{length, take, length-set}
+use lib.ListN.{length, take}
 use Rattle.words.specs.Splice.{splice}
-use Rattle.words.proofs.Splice.{splice_nil}
-use Rattle.words.proofs.Splice.{splice_past_end, splice_enough, splice_take_more}
 use Rattle.text_output.proofs.overwrite.Given as goal
 
 abbrev pub invariant-loop-i : goal.invariant-loop-i

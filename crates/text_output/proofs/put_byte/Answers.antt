@@ -3,7 +3,6 @@ use mathlib.Core.Path.{refl, sym}
 use mathlib.Core.List.{[], ◌∷◌}
 use Rattle.words.proofs.Splice.{put_one}
 use Rattle.words.proofs.Splice.{splice_past_end}
-use borrow.Author.Rules.{rules}
 use Rattle.text_output.proofs.put_byte.Goals as goal
 
 pub returns-then-at-out : goal.returns-then-at-out

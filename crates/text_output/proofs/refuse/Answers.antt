@@ -1,7 +1,6 @@
 -- `refuse` meets its contract: what `clear` leaves, and the refusal.
 use mathlib.Core.Path.{refl}
 use Rattle.text_output.specs.Written.{written_of, output_of}
-use borrow.Author.Rules.{rules}
 use Rattle.text_output.proofs.refuse.Goals as goal
 
 pub returns : goal.returns

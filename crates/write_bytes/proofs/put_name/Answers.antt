@@ -1,7 +1,6 @@
 -- `put_name` meets its contract: the bytes, and after them the NUL.
 use mathlib.Core.Path.{refl}
 use Rattle.words.proofs.Splice.{put_then}
-use borrow.Author.Rules.{rules}
 use Rattle.write_bytes.proofs.put_name.Goals as goal
 
 pub returns : goal.returns

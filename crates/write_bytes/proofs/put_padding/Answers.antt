@@ -2,7 +2,6 @@
 use mathlib.Core.Path.{subst}
 use Rattle.words.specs.Splice.{Put}
 use Rattle.write_bytes.proofs.Stores.{padding_bytes}
-use borrow.Author.Rules.{rules}
 use Rattle.write_bytes.proofs.put_padding.Goals as goal
 
 pub returns : goal.returns

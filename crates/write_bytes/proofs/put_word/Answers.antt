@@ -4,7 +4,6 @@ use native.Mathlib.Omega.{arith}
 use lib.ListN.{length}
 use Rattle.words.proofs.Words.{length_word_bytes}
 use Rattle.words.proofs.Parts.{inside_fits}
-use borrow.Author.Rules.{rules}
 use Rattle.write_bytes.proofs.put_word.Goals as goal
 
 pub put_word_within-requires : goal.put_word_within-requires

@@ -1,8 +1,6 @@
 use native.Mathlib.Omega.{arith}
-use Prim.Native.Nat.{◌-◌, ◌≤◌}
-use lib.ListN.{length, take}
+use lib.ListN.{take}
 use lib.Seq.{take_all, length-take-le}
-use Rattle.words.specs.Splice.{Put}
 use Rattle.words.proofs.Splice.{put_none, put_then, put_length}
 use Rattle.write_bytes.specs.Bytes.{joined_bytes}
 use Rattle.write_bytes.proofs.Joined.{length_joined, joined_take_more}

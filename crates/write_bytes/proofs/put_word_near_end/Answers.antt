@@ -1,7 +1,6 @@
 -- `put_word_near_end` meets its contract: four stores in a row, each of which vanishes past the end.
 use Rattle.words.specs.Words.{word_bytes}
 use Rattle.write_bytes.proofs.Stores.{four_stores}
-use borrow.Author.Rules.{rules}
 use Rattle.write_bytes.proofs.put_word_near_end.Goals as goal
 
 pub returns : goal.returns

@@ -3,7 +3,6 @@ use native.Mathlib.Omega.{arith}
 use lib.ListN.{length-set}
 use Rattle.words.specs.Words.{word_bytes}
 use Rattle.write_bytes.proofs.Stores.{four_sets}
-use borrow.Author.Rules.{rules}
 use Rattle.write_bytes.proofs.put_word_within.Goals as goal
 
 pub bounds-out-at-2 : goal.bounds-out-at-2

@@ -2,7 +2,6 @@
 use mathlib.Core.Path.{sym}
 use mathlib.Core.List.{[], ◌∷◌}
 use Rattle.words.proofs.Splice.{splice_one, splice_past_end}
-use borrow.Author.Rules.{rules}
 use Rattle.write_bytes.proofs.store.Goals as goal
 
 pub returns-then-at-out : goal.returns-then-at-out

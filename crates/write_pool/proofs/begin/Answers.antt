@@ -1,6 +1,5 @@
 -- `begin` meets its contract: the words that it clears are the first 1,025, or all where there are fewer.
 use Rattle.write_pool.proofs.Emptied.{emptied_part_begun}
-use borrow.Author.Rules.{rules}
 use Rattle.write_pool.proofs.begin.Goals as goal
 
 pub returns : goal.returns

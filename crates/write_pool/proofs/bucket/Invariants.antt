@@ -1,12 +1,8 @@
 -- `bucket` meets its contract. The loop's invariant: `hash` is that of the words before i.
-use borrow.Author.Rules.{rules}
-use mathlib.Core.Path.{◌≡◌, refl, sym, ◌∙◌}
-use Prim.Native.Nat.{◌+◌, ◌-◌, ◌/◌, ◌%◌, ◌≤◌, ◌<◌}
-use native.Mathlib.Omega.{arith}
+use mathlib.Core.Path.{◌≡◌}
+use Prim.Native.Nat.{◌-◌, ◌/◌, ◌%◌, ◌≤◌, ◌<◌}
 use lib.ListN.{length}
-use Rattle.words.proofs.Parts.{inside_fits, outside_exceeds}
 use Rattle.write_pool.specs.Pool.{hash_of}
-use Rattle.write_pool.proofs.Hashes.{hash_with_word, bucket_at_end, bucket_with_rest}
 use Rattle.write_pool.proofs.bucket.Given as goal
 
 abbrev pub invariant-loop-hash : goal.invariant-loop-hash

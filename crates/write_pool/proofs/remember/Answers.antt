@@ -3,7 +3,6 @@ use native.Mathlib.Omega.{arith}
 use lib.ListN.{length-set}
 use Rattle.write_pool.specs.Pool.{entry_count}
 use Rattle.write_pool.proofs.Added.{writes_remember}
-use borrow.Author.Rules.{rules}
 use Rattle.write_pool.proofs.remember.Goals as goal
 
 pub overflow_mul-wide : goal.overflow_mul-wide

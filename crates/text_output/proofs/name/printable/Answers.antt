@@ -4,7 +4,6 @@ use mathlib.Core.Bool.{true, false}
 use Rattle.text.specs.Utf8.{well_formed}
 use Rattle.reflection.specs.Texts.{in_place}
 use Rattle.text_output.specs.Printable.{printable}
-use borrow.Author.Rules.{rules}
 use Rattle.text_output.proofs.name.printable.Goals as goal
 
 pub returns-then-in_place : goal.returns-then-in_place

@@ -1,6 +1,5 @@
 -- `digit` meets its contract: the two cases of a hex digit.
 use borrow.Author.Tests.{lt-ltb, le-ltb}
-use borrow.Author.Rules.{rules}
 use Rattle.text_output.proofs.number.digit.Goals as goal
 
 pub returns-then-n-lt10 : goal.returns-then-n-lt10

@@ -1,11 +1,8 @@
-use borrow.Author.Rules.{rules}
-use mathlib.Core.Path.{◌≡◌, refl, ◌∙◌}
-use mathlib.Core.List.{[]}
-use Prim.Native.Nat.{◌≤◌}
+use mathlib.Core.Path.{refl, ◌∙◌}
 use native.Mathlib.Nat.{mod-lt}
 use native.Mathlib.Omega.{arith}
-use lib.ListN.{length, drop, length-set}
-use Rattle.text_output.specs.Digits.{digits_before, hex_digit}
+use lib.ListN.{length-set}
+use Rattle.text_output.specs.Digits.{hex_digit}
 use Rattle.text_output.proofs.Digits.{no_digit_yet, no_place_left, last_digit, more_digits}
 use Rattle.text_output.proofs.number.fill_digits.Goals as goal
 

@@ -3,7 +3,6 @@ use mathlib.Core.Path.{◌∙◌}
 use Prim.Native.Nat.{◌-◌}
 use native.Mathlib.Omega.{arith}
 use Rattle.text_output.proofs.Digits.{put_filled, filled_hex, hex_at_most}
-use borrow.Author.Rules.{rules}
 use Rattle.text_output.proofs.number.put_hex.Goals as goal
 
 pub returns : goal.returns

@@ -1,6 +1,5 @@
 -- `entry` meets its contract: the part from where line n begins, as long as the first line there.
 use mathlib.Core.Path.{◌∙◌}
-use borrow.Author.Rules.{rules}
 use Rattle.text_output.proofs.Lines.{line_part}
 use Rattle.text_output.proofs.table.entry.Goals as goal
 

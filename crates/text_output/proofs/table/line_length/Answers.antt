@@ -1,10 +1,6 @@
-use mathlib.Core.Path.{◌≡◌, refl}
-use mathlib.Core.List.{◌++◌}
-use Prim.Native.Nat.{◌≤◌, ◌-◌}
+use mathlib.Core.Path.{refl}
 use native.Mathlib.Omega.{arith}
 use borrow.Author.Rules.{rules}
-use lib.ListN.{length, take, drop}
-use Rattle.text_output.specs.Lines.{first_line}
 use Rattle.text_output.proofs.Lines.{line_ended, line_longer, last_line}
 use Rattle.text_output.proofs.table.line_length.Goals as goal
 

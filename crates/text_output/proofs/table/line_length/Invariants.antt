@@ -1,12 +1,9 @@
 -- `line_length` meets its contract. The invariant of its loop: the bytes that it passed, then the first line of those from i on, are the first line.
-use mathlib.Core.Path.{◌≡◌, refl}
+use mathlib.Core.Path.{◌≡◌}
 use mathlib.Core.List.{◌++◌}
 use Prim.Native.Nat.{◌≤◌, ◌-◌}
-use native.Mathlib.Omega.{arith}
-use borrow.Author.Rules.{rules}
 use lib.ListN.{length, take, drop}
 use Rattle.text_output.specs.Lines.{first_line}
-use Rattle.text_output.proofs.Lines.{line_ended, line_longer, last_line}
 use Rattle.text_output.proofs.table.line_length.Given as goal
 
 abbrev pub invariant-loop-i : goal.invariant-loop-i

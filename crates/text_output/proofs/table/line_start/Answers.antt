@@ -1,8 +1,7 @@
-use mathlib.Core.Path.{◌≡◌, refl}
-use Prim.Native.Nat.{◌≤◌, ◌-◌, ◌<◌}
+use mathlib.Core.Path.{refl}
+use Prim.Native.Nat.{◌<◌}
 use native.Mathlib.Omega.{arith}
 use borrow.Author.Rules.{rules}
-use lib.ListN.{length, drop}
 use Rattle.text_output.specs.Lines.{after_lines}
 use Rattle.text_output.proofs.Lines.{line_passed, byte_passed, past_lines}
 use Rattle.text_output.proofs.table.line_start.Goals as goal
@@ -23,11 +22,10 @@ loop-i-preserved c =
     let turn = c.loop-i in
     let some : 0 < turn.skip = omega (arith, c.if-skip-eq0.false) in
     let passed = line_passed table turn.i c.loop-i-test.true turn.skip turn.invariant.1 some in
-    let within = byte_passed table turn.i c.loop-i-test.true turn.skip turn.invariant.1 some in
-    (
+    let within = byte_passed table turn.i c.loop-i-test.true turn.skip turn.invariant.1 some in (
       omega arith,
       elim c.if-table-i-eq10.branch [
-        then-table-i-eq10 w ↦ rw w.skip-is (passed w.if-table-i-eq10.true)
+        | then-table-i-eq10 w ↦ rw w.skip-is (passed w.if-table-i-eq10.true)
         | else-table-i-eq10 w ↦ rw w.skip-is (within w.if-table-i-eq10.false)
       ],
     )

@@ -1,12 +1,8 @@
 -- `line_start` meets its contract. The invariant of its loop: what follows the lines that are to skip, from i on, is what follows n lines.
-use mathlib.Core.Path.{◌≡◌, refl}
-
-use Prim.Native.Nat.{◌≤◌, ◌-◌, ◌<◌}
-use native.Mathlib.Omega.{arith}
-use borrow.Author.Rules.{rules}
+use mathlib.Core.Path.{◌≡◌}
+use Prim.Native.Nat.{◌≤◌, ◌-◌}
 use lib.ListN.{length, drop}
 use Rattle.text_output.specs.Lines.{after_lines}
-use Rattle.text_output.proofs.Lines.{line_passed, byte_passed, past_lines}
 use Rattle.text_output.proofs.table.line_start.Given as goal
 
 abbrev pub invariant-loop-i : goal.invariant-loop-i
