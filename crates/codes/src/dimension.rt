@@ -28,6 +28,7 @@ pub enum DimensionCode {
 }
 
 impl ResourceDimension {
+    #[tactic(auto, unfolding(crate::specs::Table::lookup, crate::specs::Microsoft::srv_dimensions))]
     pub fn from_u32(v: u32) -> DimensionCode
         ensures { dimension_answer result ≡ lookup srv_dimensions v }
     {

@@ -30,6 +30,7 @@ pub enum InputTypeCode {
 }
 
 impl ResourceInputType {
+    #[tactic(auto, unfolding(crate::specs::Table::lookup, crate::specs::Microsoft::input_types))]
     pub fn from_u32(v: u32) -> InputTypeCode
         ensures { input_type_answer result ≡ lookup input_types v }
     {

@@ -41,6 +41,7 @@ pub enum BaseTypeCode {
 }
 
 impl VariableClass {
+    #[tactic(auto, unfolding(crate::specs::Table::lookup, crate::specs::Microsoft::variable_classes))]
     pub fn from_u32(v: u32) -> VariableClassCode
         ensures { class_answer result ≡ lookup variable_classes v }
     {
@@ -74,6 +75,7 @@ impl VariableClass {
 }
 
 impl BaseType {
+    #[tactic(auto, unfolding(crate::specs::Table::lookup, crate::specs::Variable::base_types))]
     pub fn from_u32(v: u32) -> BaseTypeCode
         ensures { base_type_answer result ≡ lookup base_types v }
     {
