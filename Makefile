@@ -16,9 +16,11 @@ CRATE = --offline --manifest-path rust/Cargo.toml
 all: c rust
 library: $(LIBRARY)
 
-$(LIBRARY): crates.txt $(shell find crates -name '*.rt')
-	rt staticlib nontrefalcu
-	@touch $@
+# rt lib proves nontrefalcu_c and what it rests on, as far as they changed, and makes the archive.
+$(LIBRARY): crates.txt $(shell find crates/*/src -name '*.rt')
+	cd crates/nontrefalcu_c && rt lib
+	@mkdir -p $(@D)
+	cp crates/nontrefalcu_c/out/libnontrefalcu_c.a $@
 
 c: target/c/variables
 rust: $(LIBRARY)

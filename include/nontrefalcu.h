@@ -1,7 +1,7 @@
 /*
  * Nontrefalcu: RDEF reflection chunks read, listed, spelled and written by a proved library.
  *
- * Link target/staticlib/libnontrefalcu.a, which `rt staticlib nontrefalcu` makes (x86-64 Linux). It needs memcpy and memset of the C library and
+ * Link target/staticlib/libnontrefalcu.a, which `make library` makes (x86-64 Linux). It needs memcpy and memset of the C library and
  * nothing else: no allocation, no file, no state of its own.
  *
  * Every slice is a pointer and then its length, in elements (bytes or words). A pointer whose length is 0 is not followed. What is lent for

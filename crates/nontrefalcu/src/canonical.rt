@@ -8,8 +8,7 @@ use crate::header::header_at;
 
 // `write::write_rdef_canonical` of the reflection that the header's words and the tables hold: 0, and the written length in `length`; or the refusal's
 // number, and zeros in `out` and `length`. The scratch is zeroed in any case.
-#[unsafe(no_mangle)]
-pub extern "C" fn nontrefalcu_write_canonical<'a>(
+pub fn nontrefalcu_write_canonical<'a>(
     chunk: &'a [u8],
     edits: &'a [u8],
     header: &[u32],

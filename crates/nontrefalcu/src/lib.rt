@@ -1,4 +1,4 @@
-// What C and Rust link: the proved library's functions, with numbers and slices only.
+// The proved library's functions with numbers and slices only. The crate `nontrefalcu_c` exports each under its own name, for C and Rust.
 #![tactic(auto)]
 
 mod answer;

@@ -6,8 +6,7 @@ use crate::answer::hand_length;
 
 // `listing::list_binding` of the binding that is record 0 of `binding_words`: 0, and the written length in `length`; or the refusal's number, and zeros
 // everywhere.
-#[unsafe(no_mangle)]
-pub extern "C" fn nontrefalcu_list_binding<'a>(
+pub fn nontrefalcu_list_binding<'a>(
     chunk: &'a [u8],
     edits: &'a [u8],
     binding_words: &[u32],

@@ -30,8 +30,7 @@ fn header_words(def: ResourceDef) -> [u32; reflection::HEADER_WORDS]
 }
 
 // `read::parse_rdef` with its answer as numbers: 0, and the header's words in `header`; or the refusal's number, and zeros everywhere.
-#[unsafe(no_mangle)]
-pub extern "C" fn nontrefalcu_parse_rdef(
+pub fn nontrefalcu_parse_rdef(
     chunk: &[u8],
     header: &mut [u32],
     bindings: &mut [u32],

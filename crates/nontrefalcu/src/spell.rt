@@ -8,8 +8,7 @@ use spelling_parse::SpelledType;
 
 // `spelling::hlsl_type_name` of the type that is record 0 of `type_words`: 0, and the written length in `length`; or the refusal's number, and zeros
 // everywhere.
-#[unsafe(no_mangle)]
-pub extern "C" fn nontrefalcu_type_name<'a>(
+pub fn nontrefalcu_type_name<'a>(
     chunk: &'a [u8],
     edits: &'a [u8],
     type_words: &[u32],
@@ -25,8 +24,7 @@ pub extern "C" fn nontrefalcu_type_name<'a>(
 }
 
 // `spelling::declaration` of the type that is record 0 of `type_words` and the variable that is record 0 of `variable_words`, answered in the same way.
-#[unsafe(no_mangle)]
-pub extern "C" fn nontrefalcu_declaration<'a>(
+pub fn nontrefalcu_declaration<'a>(
     chunk: &'a [u8],
     edits: &'a [u8],
     type_words: &[u32],
@@ -46,8 +44,7 @@ pub extern "C" fn nontrefalcu_declaration<'a>(
 }
 
 // `spelling_parse::parse_hlsl_type`: 0, and class, base, rows, columns and elements in `numbers`; or 18, and zeros.
-#[unsafe(no_mangle)]
-pub extern "C" fn nontrefalcu_parse_type(text: &[u8], numbers: &mut [u32]) -> u32
+pub fn nontrefalcu_parse_type(text: &[u8], numbers: &mut [u32]) -> u32
     ensures answer { result ≡ number_of (type_read text.now) }
     ensures numbers { numbers.new ≡ spelling_table (type_read text.now) (size numbers.old) }
 {

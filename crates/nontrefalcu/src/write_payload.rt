@@ -31,8 +31,7 @@ fn hand_payload(payload: Payload, chunk_length: usize, answer: &mut [u32]) -> u3
 
 // `payload::write_payload` of the reflection that the header's words and the tables hold: 0, and in `answer` 0 for the chunk or 1 for the output, and how
 // many bytes; or the refusal's number, and zeros in `out` and `answer`. The four tables `found_…` and the scratch are zeroed in any case.
-#[unsafe(no_mangle)]
-pub extern "C" fn nontrefalcu_write_payload<'a>(
+pub fn nontrefalcu_write_payload<'a>(
     chunk: &'a [u8],
     edits: &'a [u8],
     header: &[u32],
