@@ -1,4 +1,4 @@
-//! Links ../target/staticlib/libnontrefalcu.a, which `rt staticlib nontrefalcu` makes; NONTREFALCU_LIBRARY names another folder.
+//! Links ../target/staticlib/libnontrefalcu.a, which `make library` makes; NONTREFALCU_LIBRARY names another folder.
 
 use std::env;
 use std::path::{Path, PathBuf};
@@ -11,7 +11,7 @@ fn main() {
     println!("cargo:rerun-if-env-changed=NONTREFALCU_LIBRARY");
     println!("cargo:rerun-if-changed={}", library.display());
     if !library.exists() {
-        println!("cargo:warning={} is missing: `rt staticlib nontrefalcu` makes it", library.display());
+        println!("cargo:warning={} is missing: `make library` makes it", library.display());
     }
     println!("cargo:rustc-link-search=native={}", folder.display());
     println!("cargo:rustc-link-lib=static=nontrefalcu");
