@@ -1,8 +1,10 @@
 // What a program says on standard error: why an input was refused, and which of its streams failed.
 #![tactic(auto)]
 
-ghost use Rattle.std.specs.Prelude.{◌≡◌};
-ghost use Rattle.stderr.specs.Refused.{first_of};
+ghost use Rattle.std.specs.Prelude.{◌≡◌, OnOk};
+ghost use Rattle.std.specs.Io.KnownBytes.{Appends};
+ghost use Rattle.refusal_text.specs.Sentences.{sentence};
+ghost use Rattle.stderr.specs.Refused.{first_of, container, message};
 
 use std::io::{BufWriter, Write};
 use std::{fmt, io};
@@ -42,7 +44,9 @@ pub fn keep_first(first: &mut u32, number: u32)
 }
 
 // Adds the sentence of a refusal.
-fn put_sentence<W: Write>(to: &mut W, number: u32) -> io::Result<()> {
+fn put_sentence<W: Write>(to: &mut W, number: u32) -> io::Result<()>
+    ensures { OnOk result (Appends (W.contents to.old) (W.contents to.new) (sentence number)) }
+{
     let mut sentence = [0u8; SENTENCE];
     let written = refusal_text::refusal_text(number, &mut sentence);
     match written {
@@ -51,23 +55,33 @@ fn put_sentence<W: Write>(to: &mut W, number: u32) -> io::Result<()> {
     }
 }
 
-// Says why a chunk, or the first of some texts, was refused; nothing where the number is 0. A chunk that is a DXBC container is named as such.
-pub fn put_refused<W: Write>(to: &mut W, chunk: &[u8], number: u32) -> io::Result<()> {
+// Adds what is said of a chunk that is a DXBC container.
+fn put_container<W: Write>(to: &mut W, chunk: &[u8]) -> io::Result<()>
+    ensures { OnOk result (Appends (W.contents to.old) (W.contents to.new) (container chunk.now)) }
+{
+    if words::word_at(chunk, 0) == DXBC {
+        stdout::put_bytes(
+            to,
+            b"the input is a DXBC container, of which an RDEF chunk is a part: take that out first\n",
+        )
+    } else {
+        stdout::put_bytes(to, b"")
+    }
+}
+
+// Adds why a chunk, or the first of some texts, was refused; nothing where the number is 0. A chunk that is a DXBC container is named as such.
+pub fn put_refused<W: Write>(to: &mut W, chunk: &[u8], number: u32) -> io::Result<()>
+    ensures { OnOk result (Appends (W.contents to.old) (W.contents to.new) (message chunk.now number)) }
+{
     if number == 0 {
-        return Ok(());
+        return stdout::put_bytes(to, b"");
     }
     stdout::put_bytes(to, b"refused ")?;
     stdout::put_decimal(to, number)?;
     stdout::put_bytes(to, b": ")?;
     put_sentence(to, number)?;
     stdout::put_byte(to, b'\n')?;
-    if words::word_at(chunk, 0) == DXBC {
-        stdout::put_bytes(
-            to,
-            b"the input is a DXBC container, of which an RDEF chunk is a part: take that out first\n",
-        )?;
-    }
-    Ok(())
+    put_container(to, chunk)
 }
 
 // `put_refused` to standard error, in one write.
