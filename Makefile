@@ -51,6 +51,6 @@ bench: $(LIBRARY)
 	$(CARGO) bench --quiet $(CRATE) --bench speed
 
 stack: target/c/stack
-	rt check report list decl canonical spell
+	bin/rdef build
 	@target/c/stack target/c/deep.rdef
-	@examples/stack-of-programs target/bin target/c/deep.rdef
+	@examples/stack-of-programs crates target/c/deep.rdef

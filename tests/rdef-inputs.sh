@@ -10,8 +10,8 @@ zeros() { # N MAJOR
 
 make_inputs() {
     chunk=$root/samples/surtitle.5.rdef
-    "$root/target/bin/report" <"$chunk" >"$dir/report"
-    "$root/target/bin/canonical" <"$chunk" >"$dir/canonical"
+    "$root/crates/report/out/report" <"$chunk" >"$dir/report"
+    "$root/crates/canonical/out/canonical" <"$chunk" >"$dir/canonical"
 
     echo old >"$dir/old"
     head -c 27 /dev/zero >"$dir/short"
@@ -33,6 +33,6 @@ make_inputs() {
         head -c 8000 /dev/zero | tr '\000' a
         printf '\000'
     } >"$dir/large"
-    "$root/target/bin/report" <"$dir/large" >"$dir/large-report"
+    "$root/crates/report/out/report" <"$dir/large" >"$dir/large-report"
     [ "$(wc -c <"$dir/large-report")" -gt 4000000 ] || echo 'tests/rdef: the large report is not large' >&2
 }

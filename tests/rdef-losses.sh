@@ -3,10 +3,10 @@
 # A write or a read that fails.
 test_losses() {
     for word in report list decl spell canonical; do
-        rest=''
-        [ $word != spell ] || rest="${newline}rdef: *: refused 18: *" # of a line of its stored input
+        said='rdef: standard output: No space left on device'
+        [ $word != spell ] || said="rdef: *: refused 18: *$newline$said" # of a line of its stored input
         run $word "$root/crates/$word/stdin" >/dev/full
-        expect "$word to a full device" 4 /dev/null "rdef: standard output: No space left on device$rest"
+        expect "$word to a full device" 4 /dev/null "$said"
         run $word "$root/crates/$word/stdin" >&-
         expect "$word to a closed output" 4 /dev/null 'rdef: standard output is closed'
         try $word - <&-

@@ -2,16 +2,16 @@
 
 # Makes a stand-in for a program, newer than every source.
 stand_in() { # NAME COMMANDS
-    mkdir -p "$dir/repo/target/bin"
-    printf '#!/bin/sh\n%s\n' "$2" >"$dir/repo/target/bin/$1"
-    chmod 755 "$dir/repo/target/bin/$1"
+    mkdir -p "$dir/repo/crates/$1/out"
+    printf '#!/bin/sh\n%s\n' "$2" >"$dir/repo/crates/$1/out/$1"
+    chmod 755 "$dir/repo/crates/$1/out/$1"
 }
 
 make_repository() {
     rm -rf "$dir/repo" "$dir/tools"
     mkdir -p "$dir/repo/bin" "$dir/repo/crates/report/src" "$dir/repo/crates/report/specs" "$dir/repo/crates/report/proofs/main" "$dir/tools"
     cp "$root/bin/rdef" "$dir/repo/bin/rdef"
-    for source in crates.txt crates/report/src/main.rt crates/report/specs/A.antt crates/report/proofs/main/Proof.antt crates/report/stdout; do
+    for source in crates.txt crates/report/src/main.rt crates/report/specs/A.antt crates/report/proofs/main/Answers.antt crates/report/stdout; do
         touch -t 202001010000 "$dir/repo/$source"
     done
     rdef=$dir/repo/bin/rdef
@@ -23,16 +23,22 @@ test_judging() {
     stand_in report 'cat'
     try report "$chunk"
     expect 'a program that says nothing' 0 "$chunk" ''
-    stand_in report 'cat; echo "standard output: Full" >&2'
+    stand_in report 'cat; echo "Error: standard output: Full" >&2; exit 1'
     try report "$chunk"
     expect 'a failed write' 4 "$chunk" 'rdef: standard output: Full'
-    stand_in report 'cat; echo "standard input: Gone" >&2'
+    stand_in report 'cat; echo "Error: standard input: Gone (os error 7)" >&2; exit 1'
     try report "$chunk"
     expect 'a failed read' 4 "$chunk" "rdef: $chunk: Gone"
+    stand_in report 'cat; echo "Error: standard error: Full" >&2; exit 1'
+    try report "$chunk"
+    expect 'a message that could not be said' 4 "$chunk" 'rdef: Error: standard error: Full'
+    stand_in report 'cat; echo "Error: Full" >&2; exit 1'
+    try report "$chunk"
+    expect 'another error' 1 "$chunk" "rdef: Error: Full${newline}rdef: report failed, with status 1"
     stand_in report 'cat; printf "refused 7: why\nmore of it\n" >&2'
     try report "$chunk"
     expect 'a refusal of two lines' 3 "$chunk" "rdef: $chunk: refused 7: why${newline}rdef: more of it"
-    stand_in report 'cat; printf "refused 7: why\nstandard output: Full\n" >&2'
+    stand_in report 'cat; printf "refused 7: why\nError: standard output: Full\n" >&2; exit 1'
     try report "$chunk"
     expect 'a refusal and a failed write' 4 "$chunk" "rdef: $chunk: refused 7: why${newline}rdef: standard output: Full"
     stand_in report 'cat; echo "not standard output: Full" >&2'
@@ -54,36 +60,37 @@ test_judging() {
     # OUT after a write that failed half way, and after a program that was killed.
     cp "$dir/old" "$dir/repo/out"
     # shellcheck disable=SC2016 # for the stand-in
-    for pair in '4:echo "standard output: Full" >&2' '1:exit 7' '1:kill -s KILL $$' '3:echo "refused 7: why" >&2'; do
+    for pair in '4:echo "Error: standard output: Full" >&2; exit 1' '1:exit 7' '1:kill -s KILL $$' '3:echo "refused 7: why" >&2'; do
         stand_in canonical "echo half; ${pair#*:}"
         try canonical "$chunk" "$dir/repo/out"
         expect "OUT after: ${pair#*:}" "${pair%%:*}" /dev/null 'rdef: *'
         holds "OUT as it was after: ${pair#*:}" cmp -s "$dir/old" "$dir/repo/out"
     done
-    stand_in canonical 'echo half; echo "standard output: Full" >&2'
+    stand_in canonical 'echo half; echo "Error: standard output: Full" >&2; exit 1'
     try canonical "$chunk" "$dir/repo/out"
     expect 'a failed write to OUT' 4 /dev/null "rdef: $dir/repo/out: Full"
-    holds 'nothing is left beside OUT' has_names "$dir/repo/target" ./bin./bin/canonical./bin/report
+    holds 'nothing is left beside OUT' has_names "$dir/repo/crates/canonical" ./out./out/canonical
     holds 'no temporary file is left' [ -z "$(find "$dir/repo" -name '.rdef.*')" ]
 }
 
-# A stand-in for rt: it tells its arguments, and makes programs that copy their input.
+# A stand-in for rt: it tells its arguments and its folder, and makes a program that copies its input.
 stand_in_rt() { # COMMANDS
     cat >"$dir/tools/rt" <<END
 #!/bin/sh
-echo "\$*" >>"$dir/calls"
+name=\${PWD##*/}
+echo "\$* in \$name" >>"$dir/calls"
 cat
-shift
-echo 'a line of the prover'
-echo 'rt: words proved (unchanged since it was last proved)'
-echo 'rt: text proved (1 s)'
-$1
-mkdir -p target/bin
-for name; do
-    printf '#!/bin/sh\ncat\n' >target/bin/\$name
-    chmod 755 target/bin/\$name
-done
-echo 'rt: ok'
+echo 'what the program prints'
+{
+    echo 'a line of the prover'
+    echo 'rt: chose --jobs 2 for text'
+    $1
+    mkdir -p out
+    printf '#!/bin/sh\ncat\n' >out/\$name
+    chmod 755 out/\$name
+    echo 'rt: running it'
+    echo 'refused 1: why'
+} >&2
 END
     chmod 755 "$dir/tools/rt"
 }
@@ -99,17 +106,17 @@ test_building() {
     PATH=$dir/tools:$PATH
     stand_in_rt ''
     try report - <"$chunk"
-    expect 'the first use' 0 "$chunk" "rdef: building report*${newline}rt: text proved (1 s)${newline}rt: ok"
-    holds 'the first use builds' [ "$(cat "$dir/calls")" = 'check report' ]
+    expect 'the first use' 0 "$chunk" "rdef: building report*${newline}rt: chose --jobs 2 for text"
+    holds 'the first use builds' [ "$(cat "$dir/calls")" = 'run in report' ]
     try report "$chunk"
     expect 'the second use' 0 "$chunk" ''
     holds 'the second use does not build' calls 1
-    touch "$dir/repo/crates/report/stdout" "$dir/repo/README"
+    touch "$dir/repo/crates/report/stdout" "$dir/repo/crates/report/out/A.antt" "$dir/repo/README"
     try report "$chunk"
     holds 'what is no source does not count' calls 1
     count=1
-    for source in crates.txt crates/report/src/main.rt crates/report/specs/A.antt crates/report/proofs/main/Proof.antt; do
-        touch -t 202101010000 "$dir/repo/target/bin/report"
+    for source in crates.txt crates/report/src/main.rt crates/report/specs/A.antt crates/report/proofs/main/Answers.antt; do
+        touch -t 202101010000 "$dir/repo/crates/report/out/report"
         touch -t 202102010000 "$dir/repo/$source"
         count=$((count + 1))
         try report "$chunk"
@@ -121,32 +128,35 @@ test_building() {
     done
 
     rm -f "$dir/calls"
+    for word in list decl spell canonical; do
+        mkdir -p "$dir/repo/crates/$word"
+    done
     try build
     expect 'build' 0 /dev/null "rdef: building report list decl spell canonical*${newline}rdef: built report list decl spell canonical"
-    holds 'build builds all' [ "$(cat "$dir/calls")" = 'check report list decl spell canonical' ]
+    holds 'build builds all' [ "$(tr '\n' ' ' <"$dir/calls")" = 'run in report run in list run in decl run in spell run in canonical ' ]
 
-    rm -rf "$dir/repo/target"
-    stand_in_rt 'echo "rt: report NOT PROVED (exit 1, 1 s)"; exit 1'
-    said="*${newline}a line of the prover${newline}*${newline}rt: report NOT PROVED*${newline}rdef: not built: report"
+    rm -rf "$dir"/repo/crates/*/out
+    stand_in_rt 'echo "rt: not proved"; exit 1'
+    said="*${newline}a line of the prover${newline}*${newline}rt: not proved*${newline}rdef: not built: report"
     try report "$chunk"
     expect 'a build that fails' 1 /dev/null "$said"
     try build
-    expect 'build that fails' 1 /dev/null "$said list decl spell canonical"
+    expect 'build that fails' 1 /dev/null "$said"
     stand_in_rt 'exit 0'
     try report "$chunk"
-    expect 'a build without a program' 1 /dev/null "*rdef: rt holds report to be built, but target/bin/report is missing*"
+    expect 'a build without a program' 1 /dev/null "*rdef: rt holds report to be built, but crates/report/out/report is missing*"
 
     # What rt says is shown while it works: it waits here until that was seen.
     rm -f "$dir/seen"
     stand_in_rt "i=0; while [ ! -e '$dir/seen' ] && [ \$i -lt 100 ]; do sleep 0.1; i=\$((i + 1)); done; [ -e '$dir/seen' ] || exit 1"
     (
         i=0
-        while ! grep -q 'rt: text proved' "$dir/stderr" && [ $i -lt 100 ]; do sleep 0.1 && i=$((i + 1)); done
+        while ! grep -q 'rt: chose' "$dir/stderr" && [ $i -lt 100 ]; do sleep 0.1 && i=$((i + 1)); done
         [ $i -eq 100 ] || : >"$dir/seen"
     ) &
     try report "$chunk"
     wait
-    expect 'lines shown as they come' 0 "$chunk" '*rt: text proved (1 s)*'
+    expect 'lines shown as they come' 0 "$chunk" '*rt: chose --jobs 2 for text*'
 
     # Without rt in the path a program that is built runs; one that is not is named.
     rm -rf "$dir/tools"

@@ -2,74 +2,60 @@
 // standard output gets nothing.
 #![tactic(auto)]
 
-use input::Input;
 use read::Parsed;
+use reflection::{BINDING_TABLE, BUFFER_TABLE, CHUNK_LIMIT, TYPE_TABLE, VARIABLE_TABLE};
+use std::io;
+use std::io::BufWriter;
+use stderr::Failure;
 use text_output::Written;
 
-// Makes in `form` the canonical form of what the chunk reads as. Nothing is edited: the text of edits is empty.
-fn make(
-    chunk: &[u8],
-    bindings: &mut [u32; reflection::BINDING_TABLE],
-    buffers: &mut [u32; reflection::BUFFER_TABLE],
-    variables: &mut [u32; reflection::VARIABLE_TABLE],
-    types: &mut [u32; reflection::TYPE_TABLE],
-    scratch: &mut [u32; write_spec::SCRATCH_WORDS],
-    form: &mut [u8; reflection::CHUNK_LIMIT],
-) -> Written {
-    let parsed = read::parse_rdef(chunk, bindings, buffers, variables, types);
+// Makes in `form` the canonical form of what the chunk reads as. Nothing is edited: the text of edits is empty. The tables have document 01's whole
+// room.
+fn canonical(chunk: &[u8], form: &mut [u8; CHUNK_LIMIT]) -> Written {
+    let mut bindings = [0u32; BINDING_TABLE];
+    let mut buffers = [0u32; BUFFER_TABLE];
+    let mut variables = [0u32; VARIABLE_TABLE];
+    let mut types = [0u32; TYPE_TABLE];
+    let mut scratch = [0u32; write_spec::SCRATCH_WORDS];
+    let parsed = read::parse_rdef(
+        chunk,
+        &mut bindings,
+        &mut buffers,
+        &mut variables,
+        &mut types,
+    );
     match parsed {
         Parsed::Refused(refusal) => Written::Refused(refusal),
         Parsed::Read(def) => write::write_rdef_canonical(
             chunk,
             &chunk[0..0],
             def,
-            bindings,
-            buffers,
-            variables,
-            types,
-            scratch,
+            &bindings,
+            &buffers,
+            &variables,
+            &types,
+            &mut scratch,
             form,
         ),
     }
 }
 
 // Prints the first `length` bytes of the form.
-fn print(form: &[u8; reflection::CHUNK_LIMIT], length: usize) {
-    let mut out = [0u8; stdout::BUFFER];
-    let mut used: usize = 0;
-    stdout::put_bytes(&mut out, &mut used, words::part(form, 0, length));
-    stdout::flush(&out, &mut used);
+fn print(rt: &HostRuntime, form: &[u8; CHUNK_LIMIT], length: usize) -> io::Result<()> {
+    let mut out = BufWriter::new(rt.alloc(), rt.stdout())?;
+    stdout::put_bytes(&mut out, words::part(form, 0, length))?;
+    stdout::flush(&mut out)
 }
 
-// The tables have document 01's whole room. One byte more than the longest chunk is read, so that a longer one is seen.
-fn main() {
-    let mut bytes = [0u8; reflection::CHUNK_LIMIT + 1];
-    let read = input::standard_full(&mut bytes);
-    let Input::Bytes(n) = read else {
-        return;
-    };
-    let mut bindings = [0u32; reflection::BINDING_TABLE];
-    let mut buffers = [0u32; reflection::BUFFER_TABLE];
-    let mut variables = [0u32; reflection::VARIABLE_TABLE];
-    let mut types = [0u32; reflection::TYPE_TABLE];
-    let mut scratch = [0u32; write_spec::SCRATCH_WORDS];
-    let mut form = [0u8; reflection::CHUNK_LIMIT];
+// One byte more than the longest chunk is read, so that a longer one is seen.
+fn main(rt: HostRuntime) -> Result<(), Failure> {
+    let mut bytes = [0u8; CHUNK_LIMIT + 1];
+    let n = input::standard_full(&rt, &mut bytes).map_err(Failure::Input)?;
     let chunk = words::part(&bytes, 0, n);
-    let written = make(
-        chunk,
-        &mut bindings,
-        &mut buffers,
-        &mut variables,
-        &mut types,
-        &mut scratch,
-        &mut form,
-    );
+    let mut form = [0u8; CHUNK_LIMIT];
+    let written = canonical(chunk, &mut form);
     match written {
-        Written::Refused(refusal) => {
-            stderr::refused(chunk, refusal.number);
-        }
-        Written::Wrote(length) => {
-            print(&form, length);
-        }
+        Written::Refused(refusal) => stderr::refused(&rt, chunk, refusal.number),
+        Written::Wrote(length) => print(&rt, &form, length).map_err(Failure::Output),
     }
 }

@@ -1,58 +1,40 @@
-// Reading that tells a failed read from the end of the input. A failed read is said on standard error at once, while errno is its own: the name of the
-// input and errno's text. What is proved is that a count lies within the buffer; which bytes a call of C's reads no contract can say.
+// Reading into a buffer that is lent. A failed read is an error, which is told from the end of the input.
 #![tactic(auto)]
 
-ghost use Rattle.input.specs.Input.{Within};
+ghost use Rattle.std.specs.Prelude.{◌<◌, length, take, IfOk};
+ghost use Rattle.std.specs.Io.{ReadsAtMost};
+ghost use Rattle.std.specs.Io.KnownBytes.{Consumes, IsAtEnd};
 
-use libc::STDIN_FILENO;
+use std::io;
+use std::io::{Input, Read};
 
-// How many bytes were put at the start of the buffer, 0 at the end of the input; or a read failed.
-#[derive(Clone, Copy)]
-pub enum Input {
-    Bytes(usize),
-    Failed,
-}
-
-// Reads once.
-fn read_some(fd: i32, name: &[u8], buf: &mut [u8]) -> Input
-    ensures { Within result buf.new }
-{
-    let got = libc::read(fd, buf);
-    if got < 0 {
-        os::fail(name);
-        return Input::Failed;
-    }
-    Input::Bytes(io::count(got, buf))
-}
-
-// Reads until the buffer is full or the input ends.
-pub fn read_full(fd: i32, name: &[u8], buf: &mut [u8]) -> Input
-    ensures { Within result buf.new }
+// Reads until the buffer is full or the input ends. Answers how many bytes of the input lie at the buffer's start.
+pub fn read_full<R: Read>(from: &mut R, buf: &mut [u8]) -> io::Result<usize>
+    ensures within { ReadsAtMost result buf.new }
+    ensures bytes { IfOk result (λ n. Consumes (R.remaining from.old) (R.remaining from.new) (take n buf.new)) }
+    ensures end { IfOk result (λ n. n < length buf.new → IsAtEnd (R.remaining from.new)) }
 {
     let mut done: usize = 0;
     while done < buf.len() {
-        let some = read_some(fd, name, &mut buf[done..]);
-        let Input::Bytes(n) = some else {
-            return Input::Failed;
-        };
+        let n = from.read(&mut buf[done..])?;
         if n == 0 {
             break;
         }
         done += n;
     }
-    Input::Bytes(done)
+    Ok(done)
 }
 
 // `read_full` of standard input.
-pub fn standard_full(buf: &mut [u8]) -> Input
-    ensures { Within result buf.new }
+pub fn standard_full(rt: &impl Input, buf: &mut [u8]) -> io::Result<usize>
+    ensures { ReadsAtMost result buf.new }
 {
-    read_full(STDIN_FILENO, b"standard input", buf)
+    read_full(&mut rt.reader(), buf)
 }
 
 // One read of standard input.
-pub fn standard_some(buf: &mut [u8]) -> Input
-    ensures { Within result buf.new }
+pub fn standard_some(rt: &impl Input, buf: &mut [u8]) -> io::Result<usize>
+    ensures { ReadsAtMost result buf.new }
 {
-    read_some(STDIN_FILENO, b"standard input", buf)
+    rt.reader().read(buf)
 }

@@ -1,103 +1,90 @@
 // Reads a chunk from standard input and prints each of its bindings as a listed line (document 01, "Spelling and listing").
 #![tactic(auto)]
 
-use input::Input;
 use read::Parsed;
-use reflection::ResourceBinding;
-use stdout::BUFFER;
+use reflection::{
+    BINDING_TABLE, BUFFER_TABLE, CHUNK_LIMIT, ResourceBinding, TYPE_TABLE, VARIABLE_TABLE,
+};
+use std::io;
+use std::io::{BufWriter, Write};
+use stderr::Failure;
 use text_output::Written;
 
 // The line of a binding, or why it has none: `refused` keeps the first such number. A line is made in `line`.
-fn binding_line(
-    out: &mut [u8; BUFFER],
-    used: &mut usize,
+fn binding_line<W: Write>(
+    out: &mut W,
     refused: &mut u32,
-    line: &mut [u8; reflection::CHUNK_LIMIT],
+    line: &mut [u8; CHUNK_LIMIT],
     chunk: &[u8],
     b: ResourceBinding,
-) {
+) -> io::Result<()> {
     let written = listing::list_binding(chunk, chunk, b, line);
     match written {
         Written::Refused(refusal) => {
-            stdout::put_refused(out, used, refusal.number);
             stderr::keep_first(refused, refusal.number);
+            stdout::put_refused(out, refusal.number)
         }
         Written::Wrote(n) => {
-            stdout::put_bytes(out, used, words::part(line, 0, n));
-            stdout::put_byte(out, used, b'\n');
+            stdout::put_bytes(out, words::part(line, 0, n))?;
+            stdout::put_byte(out, b'\n')
         }
     }
 }
 
-// The lines of the first `count` bindings, up to a write that fails.
-fn binding_lines(
-    out: &mut [u8; BUFFER],
-    used: &mut usize,
+// The lines of the first `count` bindings.
+fn binding_lines<W: Write>(
+    out: &mut W,
     refused: &mut u32,
     chunk: &[u8],
     bindings: &[u32],
     count: usize,
-) {
-    let mut line = [0u8; reflection::CHUNK_LIMIT];
-    let mut i: usize = 0;
-    while i < count {
+) -> io::Result<()> {
+    let mut line = [0u8; CHUNK_LIMIT];
+    for i in 0..count {
         let b = tables::binding_at(bindings, i);
-        binding_line(out, used, refused, &mut line, chunk, b);
-        if stdout::has_failed(*used) {
-            break;
-        }
-        i += 1;
+        binding_line(out, refused, &mut line, chunk, b)?;
     }
+    Ok(())
 }
 
-// Prints the bindings of the chunk, or why it was refused.
-fn list(
-    chunk: &[u8],
-    bindings: &mut [u32; reflection::BINDING_TABLE],
-    buffers: &mut [u32; reflection::BUFFER_TABLE],
-    variables: &mut [u32; reflection::VARIABLE_TABLE],
-    types: &mut [u32; reflection::TYPE_TABLE],
-) {
-    let mut out = [0u8; BUFFER];
-    let mut used: usize = 0;
-    let mut refused: u32 = 0;
-    let parsed = read::parse_rdef(chunk, bindings, buffers, variables, types);
-    match parsed {
-        Parsed::Refused(refusal) => {
-            stdout::put_refused(&mut out, &mut used, refusal.number);
-            refused = refusal.number;
-        }
-        Parsed::Read(def) => {
-            binding_lines(
-                &mut out,
-                &mut used,
-                &mut refused,
-                chunk,
-                bindings,
-                def.binding_count as usize,
-            );
-        }
-    }
-    stdout::flush(&out, &mut used);
-    stderr::refused(chunk, refused);
-}
-
-// The tables have document 01's whole room. One byte more than the longest chunk is read, so that a longer one is seen.
-fn main() {
-    let mut bytes = [0u8; reflection::CHUNK_LIMIT + 1];
-    let read = input::standard_full(&mut bytes);
-    let Input::Bytes(n) = read else {
-        return;
-    };
-    let mut bindings = [0u32; reflection::BINDING_TABLE];
-    let mut buffers = [0u32; reflection::BUFFER_TABLE];
-    let mut variables = [0u32; reflection::VARIABLE_TABLE];
-    let mut types = [0u32; reflection::TYPE_TABLE];
-    list(
-        words::part(&bytes, 0, n),
+// Prints the bindings of the chunk, or why it was refused. The tables have document 01's whole room.
+fn list<W: Write>(out: &mut W, refused: &mut u32, chunk: &[u8]) -> io::Result<()> {
+    let mut bindings = [0u32; BINDING_TABLE];
+    let mut buffers = [0u32; BUFFER_TABLE];
+    let mut variables = [0u32; VARIABLE_TABLE];
+    let mut types = [0u32; TYPE_TABLE];
+    let parsed = read::parse_rdef(
+        chunk,
         &mut bindings,
         &mut buffers,
         &mut variables,
         &mut types,
     );
+    match parsed {
+        Parsed::Refused(refusal) => {
+            stderr::keep_first(refused, refusal.number);
+            stdout::put_refused(out, refusal.number)
+        }
+        Parsed::Read(def) => {
+            binding_lines(out, refused, chunk, &bindings, def.binding_count as usize)
+        }
+    }
+}
+
+// `list` to standard output.
+fn print(rt: &HostRuntime, refused: &mut u32, chunk: &[u8]) -> io::Result<()> {
+    let mut out = BufWriter::new(rt.alloc(), rt.stdout())?;
+    list(&mut out, refused, chunk)?;
+    stdout::flush(&mut out)
+}
+
+// One byte more than the longest chunk is read, so that a longer one is seen. What was refused is said even where a write failed.
+fn main(rt: HostRuntime) -> Result<(), Failure> {
+    let mut bytes = [0u8; CHUNK_LIMIT + 1];
+    let n = input::standard_full(&rt, &mut bytes).map_err(Failure::Input)?;
+    let chunk = words::part(&bytes, 0, n);
+    let mut refused: u32 = 0;
+    let printed = print(&rt, &mut refused, chunk);
+    stderr::refused(&rt, chunk, refused)?;
+    printed.map_err(Failure::Output)
 }

@@ -5,18 +5,18 @@ use crate::cases::{
     number_at, words_on,
 };
 use crate::summary::{ANSWERS, line, refused_lines};
-use stdout::BUFFER;
+use std::io;
+use std::io::Write;
 
 // Prints how many forms were written and how many refused with each number.
-pub fn answer_lines(out: &mut [u8; BUFFER], used: &mut usize, answers: &[u32; ANSWERS]) {
-    line(out, used, b"written", answers[0]);
+pub fn answer_lines<W: Write>(out: &mut W, answers: &[u32; ANSWERS]) -> io::Result<()> {
+    line(out, b"written", answers[0])?;
     refused_lines(
         out,
-        used,
         answers,
         reflection::NO_ROOM,
         reflection::OUTPUT_TOO_SMALL,
-    );
+    )
 }
 
 // What is lent to a case: more than document 01's whole room, since stored cases have longer tables, scratch and outputs too.

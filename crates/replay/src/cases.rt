@@ -2,8 +2,10 @@
 // place after it is in the file again.
 ghost use Rattle.std.specs.Prelude.{◌<◌};
 
-use input::Input;
-use stdout::BUFFER;
+use std::fs::File;
+use std::io;
+use std::io::Write;
+use std::rt::Files;
 
 // A file is shorter than this.
 pub const BEYOND: usize = 4194304;
@@ -28,28 +30,23 @@ pub fn no_case() -> Replayed {
     }
 }
 
-// Reads the file `name`; the answer is its length. Where there is none, or a longer one, a line says so and the answer is `BEYOND`; so it is where a
-// read fails, which is said on standard error.
-pub fn read_cases(
-    out: &mut [u8; BUFFER],
-    used: &mut usize,
-    name: &[u8],
+// Reads the file `name`; the answer is its length. Where there is none, or a longer one, a line says so and the answer is `BEYOND`.
+pub fn read_cases<W: Write>(
+    rt: &impl Files,
+    out: &mut W,
+    name: &str,
     all: &mut [u8; BEYOND],
-) -> usize {
-    let cases = os::open_read(name);
-    if cases < 0 {
-        stdout::put_bytes(out, used, b"no file\n");
-        return BEYOND;
-    }
-    let read = input::read_full(cases, name, all);
-    let Input::Bytes(n) = read else {
-        return BEYOND;
+) -> io::Result<usize> {
+    let Ok(mut cases) = File::open(rt, name) else {
+        stdout::put_bytes(out, b"no file\n")?;
+        return Ok(BEYOND);
     };
+    let n = input::read_full(&mut cases, all)?;
     if n < BEYOND {
-        return n;
+        return Ok(n);
     }
-    stdout::put_bytes(out, used, b"bad file\n");
-    BEYOND
+    stdout::put_bytes(out, b"bad file\n")?;
+    Ok(BEYOND)
 }
 
 // The place `n` bytes after `at`.

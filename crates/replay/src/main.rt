@@ -4,7 +4,9 @@
 #![tactic(auto)]
 
 use cases::{BEYOND, Replayed};
-use stdout::BUFFER;
+use std::io;
+use std::io::{BufWriter, Write};
+use std::rt::Files;
 use summary::{ANSWERS, line};
 
 mod canonical;
@@ -33,24 +35,23 @@ fn replay_case(file: u32, all: &[u8], at: usize) -> Replayed {
 }
 
 // Prints how many cases of a file had each answer.
-fn answer_lines(
-    out: &mut [u8; BUFFER],
-    used: &mut usize,
+fn answer_lines<W: Write>(
+    out: &mut W,
     file: u32,
     kinds: &[u32; ANSWERS],
     answers: &[u32; ANSWERS],
-) {
+) -> io::Result<()> {
     if file == READING {
-        return reading::answer_lines(out, used, answers);
+        return reading::answer_lines(out, answers);
     }
     if file == CANONICAL {
-        return canonical::answer_lines(out, used, answers);
+        return canonical::answer_lines(out, answers);
     }
-    spelling::answer_lines(out, used, kinds, answers);
+    spelling::answer_lines(out, kinds, answers)
 }
 
 // Replays the cases of a file, one after the other. A file that is cut, or that has more than its cases, is a bad one.
-fn replay_all(out: &mut [u8; BUFFER], used: &mut usize, file: u32, all: &[u8]) {
+fn replay_all<W: Write>(out: &mut W, file: u32, all: &[u8]) -> io::Result<()> {
     let mut kinds = [0u32; ANSWERS];
     let mut answers = [0u32; ANSWERS];
     let mut different: u32 = 0;
@@ -66,42 +67,43 @@ fn replay_all(out: &mut [u8; BUFFER], used: &mut usize, file: u32, all: &[u8]) {
         summary::count(&mut kinds, replayed.kind);
         summary::count(&mut answers, replayed.number);
         if !replayed.same {
-            line(out, used, b"case", i);
+            line(out, b"case", i)?;
             different = summary::one_more(different);
         }
         i += 1;
     }
-    line(out, used, b"cases", i);
-    answer_lines(out, used, file, &kinds, &answers);
-    line(out, used, b"different", different);
+    line(out, b"cases", i)?;
+    answer_lines(out, file, &kinds, &answers)?;
+    line(out, b"different", different)?;
     if at != all.len() {
-        stdout::put_bytes(out, used, b"bad file\n");
+        stdout::put_bytes(out, b"bad file\n")?;
     }
+    Ok(())
 }
 
 // Replays a file.
-fn replay_file(
-    out: &mut [u8; BUFFER],
-    used: &mut usize,
+fn replay_file<W: Write>(
+    rt: &impl Files,
+    out: &mut W,
     file: u32,
-    name: &[u8],
+    name: &str,
     all: &mut [u8; BEYOND],
-) {
-    stdout::put_bytes(out, used, name);
-    stdout::put_byte(out, used, b'\n');
-    let n = cases::read_cases(out, used, name, all);
+) -> io::Result<()> {
+    stdout::put_bytes(out, name.as_bytes())?;
+    stdout::put_byte(out, b'\n')?;
+    let n = cases::read_cases(rt, out, name, all)?;
     if n < BEYOND {
-        replay_all(out, used, file, words::part(all, 0, n));
+        replay_all(out, file, words::part(all, 0, n))?;
     }
+    Ok(())
 }
 
-fn main() {
-    let mut out = [0u8; BUFFER];
-    let mut used: usize = 0;
+fn main(rt: HostRuntime) -> io::Result<()> {
+    let mut out = BufWriter::new(rt.alloc(), rt.stdout())?;
     let mut all = [0u8; BEYOND];
-    replay_file(&mut out, &mut used, READING, b"reading", &mut all);
-    replay_file(&mut out, &mut used, CANONICAL, b"canonical", &mut all);
-    replay_file(&mut out, &mut used, SPELLING, b"spelling", &mut all);
-    reports::print_reports(&mut out, &mut used);
-    stdout::flush(&out, &mut used);
+    replay_file(&rt, &mut out, READING, "reading", &mut all)?;
+    replay_file(&rt, &mut out, CANONICAL, "canonical", &mut all)?;
+    replay_file(&rt, &mut out, SPELLING, "spelling", &mut all)?;
+    reports::print_reports(&rt, &mut out)?;
+    stdout::flush(&mut out)
 }

@@ -2,18 +2,18 @@
 // after the records too.
 use crate::cases::{Replayed, after_bytes, both, bytes_at, holds, number_at, words_on};
 use crate::summary::{ANSWERS, line, refused_lines};
-use stdout::BUFFER;
+use std::io;
+use std::io::Write;
 
 // Prints how many chunks were read and how many refused with each number.
-pub fn answer_lines(out: &mut [u8; BUFFER], used: &mut usize, answers: &[u32; ANSWERS]) {
-    line(out, used, b"read", answers[0]);
+pub fn answer_lines<W: Write>(out: &mut W, answers: &[u32; ANSWERS]) -> io::Result<()> {
+    line(out, b"read", answers[0])?;
     refused_lines(
         out,
-        used,
         answers,
         reflection::CHUNK_TOO_SHORT,
         reflection::NO_ROOM,
-    );
+    )
 }
 
 // How many words the header and each table of a stored answer have.

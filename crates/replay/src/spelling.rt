@@ -5,7 +5,8 @@ use crate::cases::{
     words_on,
 };
 use crate::summary::{ANSWERS, line, refused_lines};
-use stdout::BUFFER;
+use std::io;
+use std::io::Write;
 
 // The kinds of queries.
 const TYPE_NAME: u32 = 1;
@@ -20,24 +21,22 @@ const LIST_BINDING: u32 = 4;
 const LENT: usize = reflection::CHUNK_LIMIT + 1024;
 
 // Prints how many queries of each kind there were, how many were answered, and how many refused with each number.
-pub fn answer_lines(
-    out: &mut [u8; BUFFER],
-    used: &mut usize,
+pub fn answer_lines<W: Write>(
+    out: &mut W,
     kinds: &[u32; ANSWERS],
     answers: &[u32; ANSWERS],
-) {
-    line(out, used, b"type name", kinds[TYPE_NAME as usize]);
-    line(out, used, b"declaration", kinds[DECLARATION as usize]);
-    line(out, used, b"parse type", kinds[PARSE_TYPE as usize]);
-    line(out, used, b"list binding", kinds[LIST_BINDING as usize]);
-    line(out, used, b"answered", answers[0]);
+) -> io::Result<()> {
+    line(out, b"type name", kinds[TYPE_NAME as usize])?;
+    line(out, b"declaration", kinds[DECLARATION as usize])?;
+    line(out, b"parse type", kinds[PARSE_TYPE as usize])?;
+    line(out, b"list binding", kinds[LIST_BINDING as usize])?;
+    line(out, b"answered", answers[0])?;
     refused_lines(
         out,
-        used,
         answers,
         reflection::NOT_READABLE,
         reflection::NO_SPELLING,
-    );
+    )
 }
 
 // The port's answer: `words` begin with a type node or a binding, `more` with a variable. What lies past a record is not read.

@@ -1,11 +1,11 @@
-// The tables, record by record: all bindings, then each buffer with its variables, and each variable with its types. Every loop ends where a write
-// failed.
+// The tables, record by record: all bindings, then each buffer with its variables, and each variable with its types.
 ghost use Rattle.std.specs.Prelude.{◌+◌, ◌≤◌, ◌<◌};
 ghost use Rattle.reflection.specs.Limits.{type_levels};
 
 use crate::lines::{bind_line, buf_line, mem_line, rd11_line, rdef_line, type_line, var_line};
 use reflection::{ResourceDef, TYPE_LEVELS, is_sm5};
-use stdout::{BUFFER, has_failed};
+use std::io;
+use std::io::Write;
 
 // Goes to the next member. `left` has, for each level, how many members are still to come; the deepest level that has any, from `depth` upwards,
 // gives up one. Answers the member's depth, or 0 where no member is still to come.
@@ -27,24 +27,23 @@ fn next_member(left: &mut [u32; TYPE_LEVELS], depth: usize) -> usize
 
 // The types of one variable, from node `first` on, with a member's name and offset before its type. Answers the node after them. There are `end`
 // nodes, none of them deeper than the levels.
-fn type_lines(
-    out: &mut [u8; BUFFER],
-    used: &mut usize,
+fn type_lines<W: Write>(
+    out: &mut W,
     chunk: &[u8],
     sm5: bool,
     types: &[u32],
     first: usize,
     end: usize,
-) -> usize {
+) -> io::Result<usize> {
     let mut left = [0u32; TYPE_LEVELS];
     let mut depth: usize = 0;
     let mut next = first;
     while next < end {
         let node = tables::type_at(types, next);
         if 0 < depth {
-            mem_line(out, used, chunk, node);
+            mem_line(out, chunk, node)?;
         }
-        type_line(out, used, chunk, sm5, depth as u32, node);
+        type_line(out, chunk, sm5, depth as u32, node)?;
         next += 1;
         left[depth] = node.member_count;
         depth = next_member(&mut left, depth);
@@ -54,17 +53,13 @@ fn type_lines(
         if TYPE_LEVELS <= depth {
             break;
         }
-        if has_failed(*used) {
-            break;
-        }
     }
-    next
+    Ok(next)
 }
 
 // The variables from `first` to `end`, each followed by its types, from `node` on. Answers the node after them.
-fn variable_lines(
-    out: &mut [u8; BUFFER],
-    used: &mut usize,
+fn variable_lines<W: Write>(
+    out: &mut W,
     chunk: &[u8],
     def: ResourceDef,
     variables: &[u32],
@@ -72,82 +67,64 @@ fn variable_lines(
     first: usize,
     end: usize,
     node: usize,
-) -> usize {
+) -> io::Result<usize> {
     let sm5 = is_sm5(def);
     let mut next = node;
-    let mut i = first;
-    while i < end {
-        var_line(out, used, chunk, sm5, tables::variable_at(variables, i));
-        next = type_lines(out, used, chunk, sm5, types, next, def.type_count as usize);
-        if has_failed(*used) {
-            break;
-        }
-        i += 1;
+    for i in first..end {
+        var_line(out, chunk, sm5, tables::variable_at(variables, i))?;
+        next = type_lines(out, chunk, sm5, types, next, def.type_count as usize)?;
     }
-    next
+    Ok(next)
 }
 
 // Each buffer, followed by its variables: they stand in the table after those of the buffer before.
-fn buffer_lines(
-    out: &mut [u8; BUFFER],
-    used: &mut usize,
+fn buffer_lines<W: Write>(
+    out: &mut W,
     chunk: &[u8],
     def: ResourceDef,
     buffers: &[u32],
     variables: &[u32],
     types: &[u32],
-) {
+) -> io::Result<()> {
     let end = def.variable_count as usize;
     let mut variable: usize = 0;
     let mut node: usize = 0;
-    let mut i: usize = 0;
-    while i < def.buffer_count as usize {
+    for i in 0..def.buffer_count as usize {
         let b = tables::buffer_at(buffers, i);
-        buf_line(out, used, chunk, b);
+        buf_line(out, chunk, b)?;
         let after = words::least(variable + b.variable_count as usize, end);
-        node = variable_lines(
-            out, used, chunk, def, variables, types, variable, after, node,
-        );
-        if has_failed(*used) {
-            break;
-        }
+        node = variable_lines(out, chunk, def, variables, types, variable, after, node)?;
         variable = after;
-        i += 1;
     }
+    Ok(())
 }
 
-fn binding_lines(
-    out: &mut [u8; BUFFER],
-    used: &mut usize,
+fn binding_lines<W: Write>(
+    out: &mut W,
     chunk: &[u8],
     def: ResourceDef,
     bindings: &[u32],
-) {
-    let mut i: usize = 0;
-    while i < def.binding_count as usize {
-        bind_line(out, used, chunk, tables::binding_at(bindings, i));
-        if has_failed(*used) {
-            break;
-        }
-        i += 1;
+) -> io::Result<()> {
+    for i in 0..def.binding_count as usize {
+        bind_line(out, chunk, tables::binding_at(bindings, i))?;
     }
+    Ok(())
 }
 
 // All lines of a chunk that was read.
-pub fn all_lines(
-    out: &mut [u8; BUFFER],
-    used: &mut usize,
+pub fn all_lines<W: Write>(
+    out: &mut W,
     chunk: &[u8],
     def: ResourceDef,
     bindings: &[u32],
     buffers: &[u32],
     variables: &[u32],
     types: &[u32],
-) {
-    rdef_line(out, used, chunk, def);
+) -> io::Result<()> {
+    rdef_line(out, chunk, def)?;
     if is_sm5(def) {
-        rd11_line(out, used, def.rd11);
+        rd11_line(out, def.rd11)?;
     }
-    binding_lines(out, used, chunk, def, bindings);
-    buffer_lines(out, used, chunk, def, buffers, variables, types);
+    binding_lines(out, chunk, def, bindings)?;
+    buffer_lines(out, chunk, def, buffers, variables, types)
 }

@@ -1,23 +1,24 @@
 // What a line is made of: its keyword, its fields with a tab before each, its end.
 use reflection::Text;
-use stdout::BUFFER;
+use std::io;
+use std::io::Write;
 
-pub fn keyword(out: &mut [u8; BUFFER], used: &mut usize, name: &[u8]) {
-    stdout::put_bytes(out, used, name);
+pub fn keyword<W: Write>(out: &mut W, name: &[u8]) -> io::Result<()> {
+    stdout::put_bytes(out, name)
 }
 
 // A number, in decimal.
-pub fn number(out: &mut [u8; BUFFER], used: &mut usize, n: u32) {
-    stdout::put_byte(out, used, b'\t');
-    stdout::put_decimal(out, used, n);
+pub fn number<W: Write>(out: &mut W, n: u32) -> io::Result<()> {
+    stdout::put_byte(out, b'\t')?;
+    stdout::put_decimal(out, n)
 }
 
 // A name or a default, its bytes in hex.
-pub fn text(out: &mut [u8; BUFFER], used: &mut usize, chunk: &[u8], t: Text) {
-    stdout::put_byte(out, used, b'\t');
-    stdout::put_hex(out, used, reflection::name_part(chunk, chunk, t));
+pub fn text<W: Write>(out: &mut W, chunk: &[u8], t: Text) -> io::Result<()> {
+    stdout::put_byte(out, b'\t')?;
+    stdout::put_hex(out, reflection::name_part(chunk, chunk, t))
 }
 
-pub fn end(out: &mut [u8; BUFFER], used: &mut usize) {
-    stdout::put_byte(out, used, b'\n');
+pub fn end<W: Write>(out: &mut W) -> io::Result<()> {
+    stdout::put_byte(out, b'\n')
 }

@@ -4,7 +4,8 @@
 
 use read::Parsed;
 use reflection::{BINDING_TABLE, BUFFER_TABLE, TYPE_TABLE, VARIABLE_TABLE};
-use stdout::BUFFER;
+use std::io;
+use std::io::Write;
 
 mod chunk_lines;
 mod fields;
@@ -12,24 +13,23 @@ mod lines;
 
 // Prints what the chunk reads as, or why it was refused. Answers the refusal's number, 0 where the chunk was read. The tables have document 01's whole
 // room.
-pub fn report(
-    out: &mut [u8; BUFFER],
-    used: &mut usize,
+pub fn report<W: Write>(
+    out: &mut W,
     chunk: &[u8],
     bindings: &mut [u32; BINDING_TABLE],
     buffers: &mut [u32; BUFFER_TABLE],
     variables: &mut [u32; VARIABLE_TABLE],
     types: &mut [u32; TYPE_TABLE],
-) -> u32 {
+) -> io::Result<u32> {
     let parsed = read::parse_rdef(chunk, bindings, buffers, variables, types);
     match parsed {
         Parsed::Refused(refusal) => {
-            stdout::put_refused(out, used, refusal.number);
-            refusal.number
+            stdout::put_refused(out, refusal.number)?;
+            Ok(refusal.number)
         }
         Parsed::Read(def) => {
-            chunk_lines::all_lines(out, used, chunk, def, bindings, buffers, variables, types);
-            0
+            chunk_lines::all_lines(out, chunk, def, bindings, buffers, variables, types)?;
+            Ok(0)
         }
     }
 }

@@ -2,9 +2,10 @@
 // "Spelling and listing"). A line feed ends a line, which the last line may lack.
 #![tactic(auto)]
 
-use input::Input;
 use spelling_parse::{SpelledType, TypeSpelling};
-use stdout::BUFFER;
+use std::io;
+use std::io::{BufWriter, Write};
+use stderr::Failure;
 
 // The longest text that is kept. Leading zeros have no limit, so a run of zeros is kept to its first eight: in front of a number the others change
 // nothing, and after another digit eight make it too large already. What is longer even so is no spelling: one has at most three numbers.
@@ -14,17 +15,17 @@ const LONGEST: usize = 1048576;
 const BLOCK: usize = 65536;
 
 // Prints what a text spells.
-fn put_numbers(out: &mut [u8; BUFFER], used: &mut usize, t: TypeSpelling) {
-    stdout::put_decimal(out, used, t.class);
-    stdout::put_byte(out, used, b'\t');
-    stdout::put_decimal(out, used, t.base);
-    stdout::put_byte(out, used, b'\t');
-    stdout::put_decimal(out, used, t.rows);
-    stdout::put_byte(out, used, b'\t');
-    stdout::put_decimal(out, used, t.columns);
-    stdout::put_byte(out, used, b'\t');
-    stdout::put_decimal(out, used, t.elements);
-    stdout::put_byte(out, used, b'\n');
+fn put_numbers<W: Write>(out: &mut W, t: TypeSpelling) -> io::Result<()> {
+    stdout::put_decimal(out, t.class)?;
+    stdout::put_byte(out, b'\t')?;
+    stdout::put_decimal(out, t.base)?;
+    stdout::put_byte(out, b'\t')?;
+    stdout::put_decimal(out, t.rows)?;
+    stdout::put_byte(out, b'\t')?;
+    stdout::put_decimal(out, t.columns)?;
+    stdout::put_byte(out, b'\t')?;
+    stdout::put_decimal(out, t.elements)?;
+    stdout::put_byte(out, b'\n')
 }
 
 fn is_zero(line: &[u8], at: usize) -> bool {
@@ -67,97 +68,90 @@ fn keep(line: &mut [u8; LONGEST], n: usize, b: u8) -> usize {
 }
 
 // The line of a text that was refused; `first` keeps the first such number.
-fn put_refused(out: &mut [u8; BUFFER], used: &mut usize, first: &mut u32, number: u32) {
-    stdout::put_refused(out, used, number);
+fn put_refused<W: Write>(out: &mut W, first: &mut u32, number: u32) -> io::Result<()> {
     stderr::keep_first(first, number);
+    stdout::put_refused(out, number)
 }
 
 // Answers a text of which `length` bytes are kept; one that had no room is no spelling.
-fn answer(out: &mut [u8; BUFFER], used: &mut usize, refused: &mut u32, line: &[u8], length: usize) {
+fn answer<W: Write>(out: &mut W, refused: &mut u32, line: &[u8], length: usize) -> io::Result<()> {
     if LONGEST < length {
-        return put_refused(out, used, refused, reflection::NO_SPELLING);
+        return put_refused(out, refused, reflection::NO_SPELLING);
     }
     let spelled = spelling_parse::parse_hlsl_type(words::part(line, 0, length));
     match spelled {
-        SpelledType::Refused(refusal) => {
-            put_refused(out, used, refused, refusal.number);
-        }
-        SpelledType::Understood(t) => {
-            put_numbers(out, used, t);
-        }
+        SpelledType::Refused(refusal) => put_refused(out, refused, refusal.number),
+        SpelledType::Understood(t) => put_numbers(out, t),
     }
 }
 
-// Answers the lines that end in a block, up to a write that fails. The block goes on with a line of which `held` bytes came before; it hands back how
-// many there are, after it, of the line that is not ended.
-fn answer_block(
-    out: &mut [u8; BUFFER],
-    used: &mut usize,
+// Answers the lines that end in a block. The block goes on with a line of which `held` bytes came before; it hands back how many there are, after it,
+// of the line that is not ended.
+fn answer_block<W: Write>(
+    out: &mut W,
     refused: &mut u32,
     line: &mut [u8; LONGEST],
     held: usize,
     block: &[u8],
-) -> usize {
+) -> io::Result<usize> {
     let mut n = held;
-    let mut i = 0;
-    while i < block.len() {
-        let b = block[i];
-        if b == b'\n' {
-            answer(out, used, refused, line, n);
+    for b in block {
+        if *b == b'\n' {
+            answer(out, refused, line, n)?;
             n = 0;
         } else {
-            n = keep(line, n, b);
+            n = keep(line, n, *b);
         }
-        if stdout::has_failed(*used) {
-            break;
-        }
-        i += 1;
     }
-    n
+    Ok(n)
 }
 
-// Reads once, and answers the lines that end there. False where the input has ended, or a read or a write failed; then no line is held, so that none
-// is answered after it.
-fn answer_some(
-    out: &mut [u8; BUFFER],
-    used: &mut usize,
+// Reads once, and answers the lines that end there. False where the input has ended.
+fn answer_some<W: Write>(
+    rt: &HostRuntime,
+    out: &mut W,
     refused: &mut u32,
     line: &mut [u8; LONGEST],
     held: &mut usize,
-) -> bool {
+) -> Result<bool, Failure> {
     let mut block = [0u8; BLOCK];
-    let read = input::standard_some(&mut block);
-    let Input::Bytes(n) = read else {
-        *held = 0;
-        return false;
-    };
-    *held = answer_block(out, used, refused, line, *held, words::part(&block, 0, n));
-    stdout::flush(out, used);
-    if stdout::has_failed(*used) {
-        *held = 0;
-        return false;
-    }
-    0 < n
+    let n = input::standard_some(rt, &mut block).map_err(Failure::Input)?;
+    let part = words::part(&block, 0, n);
+    *held = answer_block(out, refused, line, *held, part).map_err(Failure::Output)?;
+    stdout::flush(out).map_err(Failure::Output)?;
+    Ok(0 < n)
 }
 
-// Answers every line. A proved loop has to end, and nothing says that the input does, so it counts its turns down from a number that no run uses up.
-fn answer_all(line: &mut [u8; LONGEST]) {
-    let mut out = [0u8; BUFFER];
-    let mut used: usize = 0;
-    let mut refused: u32 = 0;
+// Answers every line. A proved loop has to end, and nothing says that the input does, so it counts its turns: to a number that no run uses up.
+fn answer_all<W: Write>(
+    rt: &HostRuntime,
+    out: &mut W,
+    refused: &mut u32,
+    line: &mut [u8; LONGEST],
+) -> Result<(), Failure> {
     let mut held: usize = 0;
-    let mut turns = u64::MAX;
-    while 0 < turns && answer_some(&mut out, &mut used, &mut refused, line, &mut held) {
-        turns -= 1;
+    for _ in 0..u64::MAX {
+        if !answer_some(rt, out, refused, line, &mut held)? {
+            break;
+        }
     }
     if 0 < held {
-        answer(&mut out, &mut used, &mut refused, line, held);
+        answer(out, refused, line, held).map_err(Failure::Output)?;
     }
-    stdout::flush(&out, &mut used);
-    stderr::refused(words::part(line, 0, 0), refused);
+    stdout::flush(out).map_err(Failure::Output)
 }
 
-fn main() {
+// `answer_all` to standard output.
+fn spell(rt: &HostRuntime, refused: &mut u32) -> Result<(), Failure> {
     let mut line = [0u8; LONGEST];
-    answer_all(&mut line);
+    let mut out = BufWriter::new(rt.alloc(), rt.stdout()).map_err(Failure::Output)?;
+    answer_all(rt, &mut out, refused, &mut line)
+}
+
+// The first text that was refused is said even where a read or a write failed.
+fn main(rt: HostRuntime) -> Result<(), Failure> {
+    let mut refused: u32 = 0;
+    let answered = spell(&rt, &mut refused);
+    stderr::refused(&rt, b"", refused)?;
+    answered
 }

@@ -1,1 +1,1 @@
-pub mod Stays
+mod Hex

@@ -1,119 +1,69 @@
-// Standard output through a buffer that the caller lends, of which `used` bytes wait to be written. A full buffer is written and begun again, so
-// what is printed has no limit. The first write that fails is said on standard error and leaves the count `FAILED`; from then on nothing is added and
-// no write is tried. What is proved of that is the buffer and the count, and that a write is tried only where none had failed (`write`'s `requires`).
-// Which bytes a call of C's writes no contract can say.
+// What the programs print, to any writer. A function that answers `Ok` has added the bytes that its clause names to those that the writer held, where
+// these are known (of standard output no contract can say them). An error of the writer is handed on at once: nothing more is written.
 #![tactic(auto)]
 
-ghost use Rattle.std.specs.Prelude.{◌≡◌, ◌≤◌, ◌<◌};
-ghost use Rattle.stdout.specs.Output.{buffer_size, failed, count_after, StaysFailed, Flushed, ByteAdded};
+ghost use Rattle.std.specs.Prelude.{◌≡◌, ◌<◌, [], ◌∷◌, OnOk};
+ghost use Rattle.std.specs.Fmt.{decimal};
+ghost use Rattle.std.specs.Io.KnownBytes.{Keeps, Appends};
+ghost use Rattle.stdout.specs.Output.{hex_digit, hex, refused_line};
 
-use libc::STDOUT_FILENO;
-
-// The bytes of a buffer.
-pub const BUFFER: usize = 8192;
-
-// The count that a failed write leaves.
-const FAILED: usize = BUFFER + 1;
-
-// Whether a write failed, by the count.
-pub fn has_failed(used: usize) -> bool
-    ensures { result ≡ failed used }
-{
-    BUFFER < used
-}
-
-// Writes the first `used` bytes, and answers whether all were written. It alone writes, and only where no write had failed. A failure is said at once,
-// while errno is the write's.
-fn write(out: &[u8; BUFFER], used: usize) -> bool
-    requires { used ≤ buffer_size }
-{
-    let all = &out[..];
-    if io::write_all(STDOUT_FILENO, &all[..used]) {
-        return true;
-    }
-    os::fail(b"standard output");
-    false
-}
-
-// The count after a write.
-fn count_after(written: bool) -> usize
-    ensures { result ≡ count_after written }
-{
-    if written { 0 } else { FAILED }
-}
-
-// Writes what waits.
-pub fn flush(out: &[u8; BUFFER], used: &mut usize)
-    ensures { Flushed used.old used.new }
-{
-    let n = *used;
-    if n <= BUFFER {
-        *used = count_after(write(out, n));
-    }
-}
+use std::io;
+use std::io::Write;
 
 // Adds a byte.
-pub fn put_byte(out: &mut [u8; BUFFER], used: &mut usize, b: u8)
-    ensures { ByteAdded b out.old used.old out.new used.new }
+pub fn put_byte<W: Write>(out: &mut W, b: u8) -> io::Result<()>
+    ensures { OnOk result (Appends (W.contents out.old) (W.contents out.new) (b ∷ [])) }
 {
-    if *used == BUFFER {
-        flush(out, used);
-    }
-    let at = *used;
-    if at < BUFFER {
-        out[at] = b;
-        *used = at + 1;
-    }
+    out.write_all(&[b])
 }
 
 // Adds bytes.
-pub fn put_bytes(out: &mut [u8; BUFFER], used: &mut usize, bytes: &[u8])
-    ensures { StaysFailed out.old used.old out.new used.new }
+pub fn put_bytes<W: Write>(out: &mut W, bytes: &[u8]) -> io::Result<()>
+    ensures { OnOk result (Appends (W.contents out.old) (W.contents out.new) bytes.now) }
 {
-    let mut i = 0;
-    while i < bytes.len() {
-        put_byte(out, used, bytes[i]);
-        i += 1;
-    }
+    out.write_all(bytes)
 }
 
 // Adds a number in decimal.
-pub fn put_decimal(out: &mut [u8; BUFFER], used: &mut usize, n: u32)
-    ensures { StaysFailed out.old used.old out.new used.new }
+pub fn put_decimal<W: Write>(out: &mut W, n: u32) -> io::Result<()>
+    ensures { OnOk result (Appends (W.contents out.old) (W.contents out.new) (decimal n)) }
 {
-    let mut digits = [0u8; 20];
-    let k = io::decimal(n as u64, &mut digits);
-    put_bytes(out, used, &digits[..k]);
+    out.write_fmt(n)
 }
 
 // A number below 16 as a lower-case digit.
 fn hex_digit(n: u8) -> u8
     requires { n < 16 }
+    ensures { result ≡ hex_digit n }
 {
     if n < 10 { b'0' + n } else { b'a' + (n - 10) }
 }
 
 // Adds bytes in lower-case hex, or `-` where there are none.
-pub fn put_hex(out: &mut [u8; BUFFER], used: &mut usize, bytes: &[u8])
-    ensures { StaysFailed out.old used.old out.new used.new }
+pub fn put_hex<W: Write>(out: &mut W, bytes: &[u8]) -> io::Result<()>
+    ensures { OnOk result (Appends (W.contents out.old) (W.contents out.new) (hex bytes.now)) }
 {
-    if bytes.len() == 0 {
-        return put_byte(out, used, b'-');
+    if bytes.is_empty() {
+        return put_byte(out, b'-');
     }
-    let mut i = 0;
-    while i < bytes.len() {
-        let b = bytes[i];
-        put_byte(out, used, hex_digit(b / 16));
-        put_byte(out, used, hex_digit(b % 16));
-        i += 1;
+    for b in bytes {
+        out.write_all(&[hex_digit(b / 16), hex_digit(b % 16)])?;
     }
+    Ok(())
 }
 
 // Adds the line of a refused chunk: `refused`, a tab, the number.
-pub fn put_refused(out: &mut [u8; BUFFER], used: &mut usize, number: u32)
-    ensures { StaysFailed out.old used.old out.new used.new }
+pub fn put_refused<W: Write>(out: &mut W, number: u32) -> io::Result<()>
+    ensures { OnOk result (Appends (W.contents out.old) (W.contents out.new) (refused_line number)) }
 {
-    put_bytes(out, used, b"refused\t");
-    put_decimal(out, used, number);
-    put_byte(out, used, b'\n');
+    put_bytes(out, b"refused\t")?;
+    put_decimal(out, number)?;
+    put_byte(out, b'\n')
+}
+
+// Writes what waits.
+pub fn flush<W: Write>(out: &mut W) -> io::Result<()>
+    ensures { Keeps (W.contents out.old) (W.contents out.new) }
+{
+    out.flush()
 }

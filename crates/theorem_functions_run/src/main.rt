@@ -2,10 +2,10 @@
 // 01's case V with a default of four bytes; the defaults differ, and so does where the chunks have them and the creator.
 #![tactic(auto)]
 
-use input::Input;
 use read::Parsed;
 use reflection::{BINDING_TABLE, BUFFER_TABLE, TYPE_TABLE, VARIABLE_TABLE};
-use stdout::BUFFER;
+use std::io;
+use std::io::{BufWriter, Write};
 
 mod seen;
 
@@ -21,7 +21,7 @@ const INPUT: usize = LENGTH_A + LENGTH_B;
 const ROOM: usize = 128;
 
 // Writes A and B, reads both, and prints what it saw. The outputs hold 0x11 and 0x22 before.
-fn pair(
+fn pair<W: Write>(
     all: &[u8; INPUT],
     bindings_a: &mut [u32; BINDING_TABLE],
     buffers_a: &mut [u32; BUFFER_TABLE],
@@ -43,18 +43,17 @@ fn pair(
     found_buffers_b: &mut [u32; BUFFER_TABLE],
     found_variables_b: &mut [u32; VARIABLE_TABLE],
     found_types_b: &mut [u32; TYPE_TABLE],
-    lines: &mut [u8; BUFFER],
-    used: &mut usize,
-) {
+    lines: &mut W,
+) -> io::Result<()> {
     let chunk_a = words::part(all, 0, LENGTH_A);
     let chunk_b = words::part(all, LENGTH_A, LENGTH_B);
     let parsed_a = read::parse_rdef(chunk_a, bindings_a, buffers_a, variables_a, types_a);
     let parsed_b = read::parse_rdef(chunk_b, bindings_b, buffers_b, variables_b, types_b);
     let Parsed::Read(def_a) = parsed_a else {
-        return;
+        return Ok(());
     };
     let Parsed::Read(def_b) = parsed_b else {
-        return;
+        return Ok(());
     };
     let pair = theorem_functions::write_pair(
         chunk_a,
@@ -88,26 +87,26 @@ fn pair(
     let b = pair.b;
     let n = seen::length(a);
     let count = seen::variables(a);
-    seen::answer_line(lines, used, b"a", a);
-    seen::answer_line(lines, used, b"b", b);
-    seen::place_line(lines, used, b"place a", out_a, found_variables_a);
-    seen::place_line(lines, used, b"place b", out_b, found_variables_b);
+    seen::answer_line(lines, b"a", a)?;
+    seen::answer_line(lines, b"b", b)?;
+    seen::place_line(lines, b"place a", out_a, found_variables_a)?;
+    seen::place_line(lines, b"place b", out_b, found_variables_b)?;
     let outside = seen::differing(out_a, out_b, found_variables_a, count, n, false);
     let inside = seen::differing(out_a, out_b, found_variables_a, count, n, true);
-    seen::number_line(lines, used, b"differ outside", outside);
-    seen::number_line(lines, used, b"differ inside", inside);
+    seen::number_line(lines, b"differ outside", outside)?;
+    seen::number_line(lines, b"differ inside", inside)?;
     let kept_a = seen::kept(out_a, n, 0x11);
     let kept_b = seen::kept(out_b, n, 0x22);
-    seen::bool_line(lines, used, b"past a kept", kept_a);
-    seen::bool_line(lines, used, b"past b kept", kept_b);
+    seen::bool_line(lines, b"past a kept", kept_a)?;
+    seen::bool_line(lines, b"past b kept", kept_b)?;
     let zero_a = seen::zero(scratch_a);
     let zero_b = seen::zero(scratch_b);
-    seen::bool_line(lines, used, b"scratch a zero", zero_a);
-    seen::bool_line(lines, used, b"scratch b zero", zero_b);
+    seen::bool_line(lines, b"scratch a zero", zero_a)?;
+    seen::bool_line(lines, b"scratch b zero", zero_b)
 }
 
 // Writes a chunk's reflection, reads it, writes what was read, and prints what it saw.
-fn twice(
+fn twice<W: Write>(
     all: &[u8; INPUT],
     bindings: &mut [u32; BINDING_TABLE],
     buffers: &mut [u32; BUFFER_TABLE],
@@ -120,13 +119,12 @@ fn twice(
     found_variables: &mut [u32; VARIABLE_TABLE],
     found_types: &mut [u32; TYPE_TABLE],
     second: &mut [u8; ROOM],
-    lines: &mut [u8; BUFFER],
-    used: &mut usize,
-) {
+    lines: &mut W,
+) -> io::Result<()> {
     let chunk = words::part(all, 0, LENGTH_A);
     let parsed = read::parse_rdef(chunk, bindings, buffers, variables, types);
     let Parsed::Read(def) = parsed else {
-        return;
+        return Ok(());
     };
     let both = theorem_functions::write_read_write(
         chunk,
@@ -147,18 +145,15 @@ fn twice(
     let answer = both.first;
     let again = both.again;
     let n = seen::length(answer);
-    seen::answer_line(lines, used, b"first", answer);
-    seen::written_line(lines, used, b"again", again);
+    seen::answer_line(lines, b"first", answer)?;
+    seen::written_line(lines, b"again", again)?;
     let different = seen::differing(first, second, found_variables, 0, n, false);
-    seen::number_line(lines, used, b"differ again", different);
+    seen::number_line(lines, b"differ again", different)
 }
 
-fn main() {
+fn main(rt: HostRuntime) -> io::Result<()> {
     let mut chunks = [0u8; INPUT];
-    let read = input::standard_full(&mut chunks);
-    let Input::Bytes(_) = read else {
-        return;
-    };
+    input::standard_full(&rt, &mut chunks)?;
     let mut bindings_a = [0u32; BINDING_TABLE];
     let mut buffers_a = [0u32; BUFFER_TABLE];
     let mut variables_a = [0u32; VARIABLE_TABLE];
@@ -179,8 +174,7 @@ fn main() {
     let mut found_buffers_b = [0u32; BUFFER_TABLE];
     let mut found_variables_b = [0u32; VARIABLE_TABLE];
     let mut found_types_b = [0u32; TYPE_TABLE];
-    let mut lines = [0u8; BUFFER];
-    let mut used: usize = 0;
+    let mut lines = BufWriter::new(rt.alloc(), rt.stdout())?;
     pair(
         &chunks,
         &mut bindings_a,
@@ -204,8 +198,7 @@ fn main() {
         &mut found_variables_b,
         &mut found_types_b,
         &mut lines,
-        &mut used,
-    );
+    )?;
     twice(
         &chunks,
         &mut bindings_a,
@@ -220,7 +213,6 @@ fn main() {
         &mut found_types_a,
         &mut out_b,
         &mut lines,
-        &mut used,
-    );
-    stdout::flush(&lines, &mut used);
+    )?;
+    stdout::flush(&mut lines)
 }

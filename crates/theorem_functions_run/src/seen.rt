@@ -2,27 +2,28 @@
 ghost use Rattle.std.specs.Prelude.{◌≤◌};
 
 use read::Parsed;
-use stdout::BUFFER;
+use std::io;
+use std::io::Write;
 use text_output::Written;
 use theorem_functions::WrittenAndRead;
 
-fn number(out: &mut [u8; BUFFER], used: &mut usize, n: u32) {
-    stdout::put_byte(out, used, b'\t');
-    stdout::put_decimal(out, used, n);
+fn number<W: Write>(out: &mut W, n: u32) -> io::Result<()> {
+    stdout::put_byte(out, b'\t')?;
+    stdout::put_decimal(out, n)
 }
 
-pub fn number_line(out: &mut [u8; BUFFER], used: &mut usize, name: &[u8], n: u32) {
-    stdout::put_bytes(out, used, name);
-    number(out, used, n);
-    stdout::put_byte(out, used, b'\n');
+pub fn number_line<W: Write>(out: &mut W, name: &[u8], n: u32) -> io::Result<()> {
+    stdout::put_bytes(out, name)?;
+    number(out, n)?;
+    stdout::put_byte(out, b'\n')
 }
 
-pub fn bool_line(out: &mut [u8; BUFFER], used: &mut usize, name: &[u8], yes: bool) {
-    stdout::put_bytes(out, used, name);
+pub fn bool_line<W: Write>(out: &mut W, name: &[u8], yes: bool) -> io::Result<()> {
+    stdout::put_bytes(out, name)?;
     if yes {
-        stdout::put_bytes(out, used, b"\tyes\n");
+        stdout::put_bytes(out, b"\tyes\n")
     } else {
-        stdout::put_bytes(out, used, b"\tno\n");
+        stdout::put_bytes(out, b"\tno\n")
     }
 }
 
@@ -51,59 +52,57 @@ pub fn variables(answer: WrittenAndRead) -> u32 {
 }
 
 // The answer: the written length and how many variables were read, or the refusal.
-pub fn answer_line(out: &mut [u8; BUFFER], used: &mut usize, name: &[u8], answer: WrittenAndRead) {
-    stdout::put_bytes(out, used, name);
+pub fn answer_line<W: Write>(out: &mut W, name: &[u8], answer: WrittenAndRead) -> io::Result<()> {
+    stdout::put_bytes(out, name)?;
     match answer {
         WrittenAndRead::Wrote(n, _) => {
-            stdout::put_bytes(out, used, b"\twrote");
-            number(out, used, word(n));
-            number(out, used, variables(answer));
+            stdout::put_bytes(out, b"\twrote")?;
+            number(out, word(n))?;
+            number(out, variables(answer))?;
         }
         WrittenAndRead::Refused(refusal) => {
-            stdout::put_bytes(out, used, b"\trefused");
-            number(out, used, refusal.number);
+            stdout::put_bytes(out, b"\trefused")?;
+            number(out, refusal.number)?;
         }
     }
-    stdout::put_byte(out, used, b'\n');
+    stdout::put_byte(out, b'\n')
 }
 
-pub fn written_line(out: &mut [u8; BUFFER], used: &mut usize, name: &[u8], answer: Written) {
-    stdout::put_bytes(out, used, name);
+pub fn written_line<W: Write>(out: &mut W, name: &[u8], answer: Written) -> io::Result<()> {
+    stdout::put_bytes(out, name)?;
     match answer {
         Written::Wrote(n) => {
-            stdout::put_bytes(out, used, b"\twrote");
-            number(out, used, word(n));
+            stdout::put_bytes(out, b"\twrote")?;
+            number(out, word(n))?;
         }
         Written::Refused(refusal) => {
-            stdout::put_bytes(out, used, b"\trefused");
-            number(out, used, refusal.number);
+            stdout::put_bytes(out, b"\trefused")?;
+            number(out, refusal.number)?;
         }
     }
-    stdout::put_byte(out, used, b'\n');
+    stdout::put_byte(out, b'\n')
 }
 
 // Where the first variable's default was found, its length, and the bytes there in hex.
-pub fn place_line(
-    out: &mut [u8; BUFFER],
-    used: &mut usize,
+pub fn place_line<W: Write>(
+    out: &mut W,
     name: &[u8],
     written: &[u8],
     variables: &[u32],
-) {
+) -> io::Result<()> {
     let variable = tables::variable_at(variables, 0);
     let default = variable.default_value;
-    stdout::put_bytes(out, used, name);
-    number(out, used, default.place);
-    number(out, used, default.length);
-    stdout::put_byte(out, used, b'\t');
-    stdout::put_hex(out, used, reflection::name_part(written, written, default));
-    stdout::put_byte(out, used, b'\n');
+    stdout::put_bytes(out, name)?;
+    number(out, default.place)?;
+    number(out, default.length)?;
+    stdout::put_byte(out, b'\t')?;
+    stdout::put_hex(out, reflection::name_part(written, written, default))?;
+    stdout::put_byte(out, b'\n')
 }
 
 // Whether byte p lies in the default of one of the first `count` variables.
 fn covered(variables: &[u32], count: u32, p: u32) -> bool {
-    let mut i: u32 = 0;
-    while i < count {
+    for i in 0..count {
         let variable = tables::variable_at(variables, i as usize);
         let default = variable.default_value;
         let place = default.place;
@@ -113,7 +112,6 @@ fn covered(variables: &[u32], count: u32, p: u32) -> bool {
                 return true;
             }
         }
-        i += 1;
     }
     false
 }
@@ -136,37 +134,31 @@ fn counted(looked: bool, x: u32, y: u32) -> u32
 // How many of the first n bytes differ, of those that lie in a default, or of those that do not.
 pub fn differing(a: &[u8], b: &[u8], variables: &[u32], count: u32, n: u32, inside: bool) -> u32 {
     let mut different: u32 = 0;
-    let mut p: u32 = 0;
-    while p < n {
+    for p in 0..n {
         let looked = same(covered(variables, count, p), inside);
         let x = words::byte_at(a, p as usize);
         let y = words::byte_at(b, p as usize);
         different += counted(looked, x, y);
-        p += 1;
     }
     different
 }
 
 // Whether all bytes from `from` on are as they were.
 pub fn kept(out: &[u8], from: u32, old: u8) -> bool {
-    let mut i = from as usize;
-    while i < out.len() {
+    for i in from as usize..out.len() {
         if out[i] != old {
             return false;
         }
-        i += 1;
     }
     true
 }
 
 // Whether all words are 0.
 pub fn zero(words: &[u32]) -> bool {
-    let mut i = 0;
-    while i < words.len() {
-        if words[i] != 0 {
+    for word in words {
+        if *word != 0 {
             return false;
         }
-        i += 1;
     }
     true
 }

@@ -12,9 +12,9 @@ use std::io::{self, BufRead, BufReader, Read, Write};
 use std::ops::Range;
 use std::process::{Command, Stdio};
 
-/// The port's program, as `rt check replay` builds it. It prints the reports after what it says of stored files.
+/// The port's program, as `rt run` in its folder builds it. It prints the reports after what it says of stored files.
 pub fn program() -> Command {
-    Command::new(concat!(env!("CARGO_MANIFEST_DIR"), "/../target/bin/replay"))
+    Command::new(concat!(env!("CARGO_MANIFEST_DIR"), "/../crates/replay/out/replay"))
 }
 
 /// What is compared: the reader, and the program that prints reports, if it is to be run.
