@@ -13,7 +13,7 @@ mod canonical;
 mod cases;
 mod reading;
 mod reports;
-mod spelling;
+mod spelled;
 mod summary;
 
 // The stored files.
@@ -31,7 +31,7 @@ fn replay_case(file: u32, all: &[u8], at: usize) -> Replayed {
     if file == CANONICAL {
         return canonical::replay_reflection(all, at);
     }
-    spelling::replay_query(all, at)
+    spelled::replay_query(all, at)
 }
 
 // Prints how many cases of a file had each answer.
@@ -47,7 +47,7 @@ fn answer_lines<W: Write>(
     if file == CANONICAL {
         return canonical::answer_lines(out, answers);
     }
-    spelling::answer_lines(out, kinds, answers)
+    spelled::answer_lines(out, kinds, answers)
 }
 
 // Replays the cases of a file, one after the other. A file that is cut, or that has more than its cases, is a bad one.
