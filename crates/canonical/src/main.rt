@@ -1,5 +1,4 @@
-// Reads a chunk from standard input and prints its canonical form (document 01, "Canonical form"). Where there is none, standard error says why and
-// standard output gets nothing.
+// Reads a chunk from standard input and prints its canonical form (document 01, "Canonical form"), or the line of its refusal; standard error says why.
 #![tactic(auto)]
 
 use read::Parsed;
@@ -40,10 +39,13 @@ fn canonical(chunk: &[u8], form: &mut [u8; CHUNK_LIMIT]) -> Written {
     }
 }
 
-// Prints the first `length` bytes of the form.
-fn print(rt: &HostRuntime, form: &[u8; CHUNK_LIMIT], length: usize) -> io::Result<()> {
+// Prints the form, or the line of the refusal.
+fn print(rt: &HostRuntime, form: &[u8; CHUNK_LIMIT], written: Written) -> io::Result<()> {
     let mut out = BufWriter::new(rt.alloc(), rt.stdout())?;
-    stdout::put_bytes(&mut out, words::part(form, 0, length))?;
+    match written {
+        Written::Refused(refusal) => stdout::put_refused(&mut out, refusal.number)?,
+        Written::Wrote(length) => stdout::put_bytes(&mut out, words::part(form, 0, length))?,
+    }
     stdout::flush(&mut out)
 }
 
@@ -54,8 +56,9 @@ fn main(rt: HostRuntime) -> Result<(), Failure> {
     let chunk = words::part(&bytes, 0, n);
     let mut form = [0u8; CHUNK_LIMIT];
     let written = canonical(chunk, &mut form);
-    match written {
-        Written::Refused(refusal) => stderr::refused(&rt, chunk, refusal.number),
-        Written::Wrote(length) => print(&rt, &form, length).map_err(Failure::Output),
+    let printed = print(&rt, &form, written).map_err(Failure::Output);
+    if let Written::Refused(refusal) = written {
+        stderr::refused(&rt, chunk, refusal.number)?;
     }
+    printed
 }

@@ -84,8 +84,11 @@ pub fn put_refused<W: Write>(to: &mut W, chunk: &[u8], number: u32) -> io::Resul
     put_container(to, chunk)
 }
 
-// `put_refused` to standard error, in one write.
+// `put_refused` to standard error, in one write; nothing is done where the number is 0.
 pub fn refused(rt: &HostRuntime, chunk: &[u8], number: u32) -> Result<(), Failure> {
+    if number == 0 {
+        return Ok(());
+    }
     let mut to = BufWriter::new(rt.alloc(), rt.stderr()).map_err(Failure::Message)?;
     put_refused(&mut to, chunk, number).map_err(Failure::Message)?;
     to.flush().map_err(Failure::Message)
