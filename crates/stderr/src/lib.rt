@@ -86,10 +86,10 @@ pub fn put_refused<W: Write>(to: &mut W, chunk: &[u8], number: u32) -> io::Resul
 
 // `put_refused` to standard error, in one write; nothing is done where the number is 0.
 pub fn refused(rt: &HostRuntime, chunk: &[u8], number: u32) -> Result<(), Failure> {
-    if number == 0 {
-        return Ok(());
+    if number != 0 {
+        let mut to = BufWriter::new(rt.alloc(), rt.stderr()).map_err(Failure::Message)?;
+        put_refused(&mut to, chunk, number).map_err(Failure::Message)?;
+        to.flush().map_err(Failure::Message)?;
     }
-    let mut to = BufWriter::new(rt.alloc(), rt.stderr()).map_err(Failure::Message)?;
-    put_refused(&mut to, chunk, number).map_err(Failure::Message)?;
-    to.flush().map_err(Failure::Message)
+    Ok(())
 }
