@@ -1,4 +1,4 @@
--- Two reflections pass the test `sameDef` by their bytes exactly where they are equal: part by part.
+-- Two reflections pass the test `same_def` by their bytes exactly where they are equal: part by part.
 use mathlib.Core.Path.{◌≡◌, refl, ap}
 use mathlib.Core.Bool.{Bool, true, ◌&&◌}
 use mathlib.Core.List.{List, [], ◌∷◌}

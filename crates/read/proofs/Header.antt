@@ -1,4 +1,4 @@
--- The header's ways out, in the order of the checks: what `readChunk` comes to at each. Every check but the last holds, and the steps' laws take
+-- The header's ways out, in the order of the checks: what `read_chunk` comes to at each. Every check but the last holds, and the steps' laws take
 -- them one at a time.
 use mathlib.Core.Path.{◌≡◌, refl, sym, ap, subst, ◌∙◌}
 use mathlib.Core.Bool.{Bool, true, false, ◌||◌}

@@ -34,7 +34,7 @@ unfoldable pub on_path : ℕ → List ℕ → Bool
 on_path at [] = false
 on_path at (x ∷ xs) = eqb at x || on_path at xs
 
--- n members: each a record, its name, then its type, which `readType` reads.
+-- n members: each a record, its name, then its type, which `read_type` reads.
 unfoldable pub read_members : (ℕ → ReadStep (TypeDesc Text)) → List ℕ → ℕ → ℕ → ReadStep (Members Text)
 read_members read_type s zero at = return no_member
 read_members read_type s (suc n) at = do

@@ -1,4 +1,4 @@
--- The codes of a binding: `codeFault` is 0 where reading checks them all, and else the number by which it refuses.
+-- The codes of a binding: `code_fault` is 0 where reading checks them all, and else the number by which it refuses.
 use mathlib.Core.Path.{◌≡◌, refl, sym, ap, ◌∙◌}
 use mathlib.Core.Bool.{Bool, true, false}
 use mathlib.Core.List.{List}

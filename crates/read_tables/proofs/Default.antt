@@ -1,4 +1,4 @@
--- A variable's default, by the offset that its record gives: the three cases of `defaultAt`.
+-- A variable's default, by the offset that its record gives: the three cases of `default_at`.
 use mathlib.Core.Path.{◌≡◌, refl}
 use mathlib.Core.Bool.{true, false}
 use mathlib.Core.List.{List}

@@ -1,4 +1,4 @@
--- What reading one binding appends: each law follows the steps of `readBinding` up to the first that ends the walk.
+-- What reading one binding appends: each law follows the steps of `read_binding` up to the first that ends the walk.
 use mathlib.Core.Path.{◌≡◌, refl, sym, ap, ◌∙◌}
 use mathlib.Core.Bool.{Bool, true, false}
 use mathlib.Core.List.{List, ◌++◌}

@@ -1,4 +1,4 @@
--- What reading one variable appends: each law follows the steps of `readVariable` up to the first that ends the walk.
+-- What reading one variable appends: each law follows the steps of `read_variable` up to the first that ends the walk.
 use mathlib.Core.Path.{◌≡◌, refl, sym, ap, subst, ◌∙◌}
 use mathlib.Core.Bool.{Bool, true, false}
 use mathlib.Core.List.{List, [], ◌++◌}

@@ -1,4 +1,4 @@
--- What reading members appends, one member at a time: each law follows the steps of `readMembers` up to the first that ends the walk.
+-- What reading members appends, one member at a time: each law follows the steps of `read_members` up to the first that ends the walk.
 use mathlib.Core.Path.{◌≡◌, refl, ap, ◌∙◌}
 use mathlib.Core.Bool.{Bool, true, false}
 use mathlib.Core.List.{List}

@@ -1,4 +1,4 @@
--- What reading a type appends: each law follows the steps of `readType` up to the first that ends the walk.
+-- What reading a type appends: each law follows the steps of `read_type` up to the first that ends the walk.
 use mathlib.Core.Path.{◌≡◌, refl, ap, ◌∙◌}
 use mathlib.Core.Bool.{Bool, true, false, not}
 use mathlib.Core.List.{List, ◌∷◌, ◌++◌}

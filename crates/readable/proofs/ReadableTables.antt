@@ -1,5 +1,5 @@
 -- What a readable reflection's tables hold: the reflection that they decode to, whose contents are readable, and counts and lengths within document 01's room.
--- Each step of `tableContents` gave something; decoding keeps the counts, since every record, variable and node that is counted is used.
+-- Each step of `table_contents` gave something; decoding keeps the counts, since every record, variable and node that is counted is used.
 use mathlib.Core.Path.{◌≡◌, refl, sym, ap, ◌∙◌}
 use mathlib.Core.Bool.{true, ◌&&◌}
 use mathlib.Core.List.{List, map}

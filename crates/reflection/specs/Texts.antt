@@ -7,7 +7,7 @@ use Rattle.reflection.specs.declared.NamePlace.TheVariants.{InPlace, Refused}
 use Rattle.reflection.specs.Refusals.{not_readable}
 use Rattle.reflection.specs.Outcome.{because}
 
--- A text in the chunk; an empty text "at place 0" is `inChunk 0 0`.
+-- A text in the chunk; an empty text "at place 0" is `in_chunk 0 0`.
 abbrev pub in_chunk : ℕ → ℕ → Text
 in_chunk place n = record { source = 0; place = place; length = n }
 

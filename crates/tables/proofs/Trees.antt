@@ -62,7 +62,7 @@ module _ (types : List ℕ) where
   some_member zero k h = absurd (h refl)
   some_member (suc n) k h = refl
 
-  -- What `hasMember` says.
+  -- What `has_member` says.
   pub member_left : (n k : ℕ) → has_member types n k ≡ true → 0 < n
   unfolding has_member
   member_left zero k e = let z : ◌≡◌ {A = ℕ} 0 1 = cc in omega arith

@@ -1,4 +1,4 @@
--- `sameBytes` is true exactly where the two lists are equal: by the lists, one byte of each at a time.
+-- `same_bytes` is true exactly where the two lists are equal: by the lists, one byte of each at a time.
 use mathlib.Core.Path.{◌≡◌, refl, ap, subst}
 use mathlib.Core.Bool.{true, false, ◌&&◌}
 use mathlib.Core.List.{List, [], ◌∷◌}

@@ -5,7 +5,7 @@
 -- it answers 0 and the length n, what was read holds every field, name and default that the lent tables hold, and any call of the writer on what was read,
 -- with as much scratch and output, answers 0 and n again and writes the same n bytes.
 --
--- Definitions that this rests on: `tableContents` (crates/readable/specs/Readable.antt) and Calls.antt. proofs/RoundTrip.antt proves it.
+-- Definitions that this rests on: `table_contents` (crates/readable/specs/Readable.antt) and Calls.antt. proofs/RoundTrip.antt proves it.
 use Rattle.std.specs.Prelude.{◌≡◌, [], ◌∷◌, ℕ, length as size, take}
 use Rattle.reflection.specs.declared.Refusal.{Refusal}
 use Rattle.readable.specs.Readable.{table_contents}

@@ -9,9 +9,9 @@
 --     place in both; every one of the first n bytes outside these places is equal; at each place stand that side's own bytes; bytes past n are as they were;
 --     the scratch is zero.
 --
--- Definitions that this rests on: `tableContents`, what tables hold (crates/readable/specs/Readable.antt); `SameButDefaults`, two reflections that
+-- Definitions that this rests on: `table_contents`, what tables hold (crates/readable/specs/Readable.antt); `SameButDefaults`, two reflections that
 -- differ only in the bytes of their defaults, and `Covered`, a byte's index lies in one of some texts
--- (crates/theorem_noninterference/specs/Noninterference.antt); `variableAt`, a variable's record in a table (crates/tables/specs/Records.antt); `textBytes`,
+-- (crates/theorem_noninterference/specs/Noninterference.antt); `variable_at`, a variable's record in a table (crates/tables/specs/Records.antt); `text_bytes`,
 -- the bytes of a text (crates/reflection/specs/Texts.antt); what was lent and what is left: Calls.antt. proofs/Noninterference.antt proves it.
 use Rattle.std.specs.Prelude.{◌≡◌, List, [], map, ℕ, ◌<◌, ◌≤◌, length, get_or, take, drop, replicate}
 use Rattle.std.proofs.Math.Option.{Option, none, some}

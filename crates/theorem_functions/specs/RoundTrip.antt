@@ -5,7 +5,7 @@
 -- outputs; or n bytes are written and read, and then what was read holds every field, name and default that the lent tables hold; and it is written again as
 -- n bytes, the same ones, where the second output has room for n, else refused as too long for that output.
 --
--- Definitions that this rests on: `tableContents`, what tables hold, every field with names and defaults by their bytes (crates/readable/specs/Readable.antt);
+-- Definitions that this rests on: `table_contents`, what tables hold, every field with names and defaults by their bytes (crates/readable/specs/Readable.antt);
 -- `write`, which says when a reflection is refused (crates/write_spec/specs/Outcome.antt); what was lent and what is left: Calls.antt. proofs/RoundTrip.antt
 -- proves it.
 use Rattle.std.specs.Prelude.{◌≡◌, [], ℕ, ◌<◌, ◌≤◌, length, take, drop, replicate}

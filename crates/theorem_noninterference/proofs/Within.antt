@@ -1,4 +1,4 @@
--- Every cell of the layout that holds a byte of a default lies in the place of a default, as the layout's result has it (`defaultPlaces`): such cells are
+-- Every cell of the layout that holds a byte of a default lies in the place of a default, as the layout's result has it (`default_places`): such cells are
 -- written by the step for a default alone, and the offset that this step hands back is where they begin.
 use mathlib.Core.Path.{◌≡◌, refl, ap, sym, ◌∙◌, subst}
 use mathlib.Core.Logic.{inl, inr}

@@ -1,5 +1,5 @@
 -- Vocabulary of proofs: of the functions themselves this is said in crates/theorem_functions/specs/Noninterference.antt.
--- Noninterference in the two outputs: what `write_rdef_canonical` answers and leaves (`written_of` and `outputOf` of `write`, by its contract), whatever lay
+-- Noninterference in the two outputs: what `write_rdef_canonical` answers and leaves (`written_of` and `output_of` of `write`, by its contract), whatever lay
 -- in the lent outputs before. After a refusal both answers and both outputs are the same. Else both answers are the same length, and each output begins with
 -- its reflection's canonical form; these are alike (`Alike`).
 use Rattle.std.specs.Prelude.{◌≡◌, ℕ, length, take}

@@ -1,4 +1,4 @@
--- What `readableContents` and `NumbersAreWords` say of each record, in the form that the proofs of reading use: each is a part of the two, found by taking
+-- What `readable_contents` and `NumbersAreWords` say of each record, in the form that the proofs of reading use: each is a part of the two, found by taking
 -- the tests and the lists of names and numbers apart.
 use mathlib.Core.Path.{◌≡◌, refl, ap, sym, ◌∙◌, subst}
 use mathlib.Core.List.{List, [], ◌∷◌, ◌++◌, map, append_assoc}

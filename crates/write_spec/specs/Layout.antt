@@ -37,7 +37,7 @@ module _ {N D : Type 0} (O : TextFacts N D) where
     o ← append (cells_of (O.default_length d) (default_byte d))
     add_to_pool (add_default d) o)
 
-  -- What is written for a type: its name if any; for each member its name, then its type (`placeMembers`, which hands back the words of their records);
+  -- What is written for a type: its name if any; for each member its name, then its type (`place_members`, which hands back the words of their records);
   -- if there are members, padding and their records; padding; the descriptor.
   unfoldable pub write_type : Bool → TypeNumbers → N → ℕ → WriteStep N D (List ℕ) → WriteStep N D ℕ
   write_type sm5 k n count place_members = do

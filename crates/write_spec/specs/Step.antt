@@ -19,7 +19,7 @@ pub record TextFacts (N D : Type 0) : Type 0 where
   pub same_default : D → D → Bool
 
 -- What was written interned, with its offset. Two string pools: names of bindings and buffers; all other names. Types that may be shared where one is
--- looked up now (`types`), and those among which its members are looked up (`member-types`). Defaults.
+-- looked up now (`types`), and those among which its members are looked up (`member_types`). Defaults.
 pub record Pools (N D : Type 0) : Type 0 where
   pub outer_names : List (N × ℕ)
   pub inner_names : List (N × ℕ)

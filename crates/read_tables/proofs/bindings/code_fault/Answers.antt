@@ -1,4 +1,4 @@
--- `code_fault` meets its contract: it tests the codes in the order of `codeFault`, and each way out is one case of it.
+-- `code_fault` meets its contract: it tests the codes in the order of its definition, and each way out is one case of it.
 use mathlib.Core.Path.{sym}
 use Rattle.codes.specs.Table.{known}
 use Rattle.codes.specs.Microsoft.{input_types, srv_dimensions}

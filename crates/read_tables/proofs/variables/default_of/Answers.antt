@@ -1,4 +1,4 @@
--- `default_of` meets its contract: each way out is one case of `defaultAt`.
+-- `default_of` meets its contract: each way out is one case of `default_at`.
 use mathlib.Core.Path.{◌≡◌, sym, ◌∙◌}
 use mathlib.Core.Bool.{true}
 use native.Mathlib.Omega.{arith}
