@@ -1,7 +1,8 @@
 -- The hex of one byte more.
 use Rattle.std.proofs.Common.{◌≡◌, ℕ, ◌+◌, ◌/◌, ◌%◌, ◌<◌, List, [], ◌∷◌, ◌++◌, length, take, get_or, refl, ap, ◌∙◌}
 use Rattle.std.proofs.lemmas.List.{take_more}
-use Rattle.stdout.specs.Output.{hex_digit, hex_digits}
+use Rattle.text_output.specs.Digits.{hex_digit}
+use Rattle.stdout.specs.Output.{hex_digits}
 
 digits_append : (xs ys : List ℕ) → hex_digits (xs ++ ys) ≡ hex_digits xs ++ hex_digits ys
 digits_append [] ys = refl

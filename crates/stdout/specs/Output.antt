@@ -1,10 +1,8 @@
 -- The bytes that the functions of `stdout` write.
-use Rattle.std.specs.Prelude.{List, [], ◌∷◌, ◌++◌, ℕ, ◌+◌, ◌/◌, ◌%◌, ltb, cond}
+use Rattle.std.specs.Prelude.{List, [], ◌∷◌, ◌++◌, ℕ, ◌/◌, ◌%◌}
 use Rattle.std.specs.Fmt.{decimal}
-
--- The digit of a number below 16, in lower case.
-abbrev pub hex_digit : ℕ → ℕ
-hex_digit n = cond (ltb n 10) (48 + n) (87 + n)
+use Rattle.text_output.specs.Ascii.{ascii}
+use Rattle.text_output.specs.Digits.{hex_digit}
 
 -- The two digits of each byte.
 abbrev pub hex_digits : List ℕ → List ℕ
@@ -18,4 +16,4 @@ hex (b ∷ bs) = hex_digits (b ∷ bs)
 
 -- The line of a refusal: `refused`, a tab, the number.
 abbrev pub refused_line : ℕ → List ℕ
-refused_line number = (114 ∷ 101 ∷ 102 ∷ 117 ∷ 115 ∷ 101 ∷ 100 ∷ 9 ∷ []) ++ decimal number ++ 10 ∷ []
+refused_line number = ascii "refused" ++ 9 ∷ decimal number ++ 10 ∷ []

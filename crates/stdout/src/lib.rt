@@ -5,7 +5,8 @@
 ghost use Rattle.std.specs.Prelude.{◌≡◌, ◌<◌, [], ◌∷◌, OnOk};
 ghost use Rattle.std.specs.Fmt.{decimal};
 ghost use Rattle.std.specs.Io.KnownBytes.{Keeps, Appends};
-ghost use Rattle.stdout.specs.Output.{hex_digit, hex, refused_line};
+ghost use Rattle.text_output.specs.Digits.{hex_digit};
+ghost use Rattle.stdout.specs.Output.{hex, refused_line};
 
 use std::io;
 use std::io::Write;
