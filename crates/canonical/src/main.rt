@@ -1,16 +1,14 @@
 // Reads a chunk from standard input and prints its canonical form (document 01, "Canonical form"), or the line of its refusal; standard error says why.
 #![tactic(auto)]
 
-use read::Parsed;
-use reflection::{BINDING_TABLE, BUFFER_TABLE, CHUNK_LIMIT, TYPE_TABLE, VARIABLE_TABLE};
+use reflection::{BINDING_TABLE, BUFFER_TABLE, CHUNK_LIMIT, Refusal, TYPE_TABLE, VARIABLE_TABLE};
 use std::io;
 use std::io::BufWriter;
 use stderr::Failure;
-use text_output::Written;
 
 // Makes in `form` the canonical form of what the chunk reads as. Nothing is edited: the text of edits is empty. The tables have document 01's whole
 // room.
-fn canonical(chunk: &[u8], form: &mut [u8; CHUNK_LIMIT]) -> Written {
+fn canonical(chunk: &[u8], form: &mut [u8; CHUNK_LIMIT]) -> Result<usize, Refusal> {
     let mut bindings = [0u32; BINDING_TABLE];
     let mut buffers = [0u32; BUFFER_TABLE];
     let mut variables = [0u32; VARIABLE_TABLE];
@@ -24,8 +22,8 @@ fn canonical(chunk: &[u8], form: &mut [u8; CHUNK_LIMIT]) -> Written {
         &mut types,
     );
     match parsed {
-        Parsed::Refused(refusal) => Written::Refused(refusal),
-        Parsed::Read(def) => write::write_rdef_canonical(
+        Err(refusal) => Err(refusal),
+        Ok(def) => write::write_rdef_canonical(
             chunk,
             &chunk[0..0],
             def,
@@ -40,11 +38,15 @@ fn canonical(chunk: &[u8], form: &mut [u8; CHUNK_LIMIT]) -> Written {
 }
 
 // Prints the form, or the line of the refusal.
-fn print(rt: &HostRuntime, form: &[u8; CHUNK_LIMIT], written: Written) -> io::Result<()> {
+fn print(
+    rt: &HostRuntime,
+    form: &[u8; CHUNK_LIMIT],
+    written: Result<usize, Refusal>,
+) -> io::Result<()> {
     let mut out = BufWriter::new(rt.alloc(), rt.stdout())?;
     match written {
-        Written::Refused(refusal) => stdout::put_refused(&mut out, refusal.number)?,
-        Written::Wrote(length) => stdout::put_bytes(&mut out, words::part(form, 0, length))?,
+        Err(refusal) => stdout::put_refused(&mut out, refusal)?,
+        Ok(length) => stdout::put_bytes(&mut out, words::part(form, 0, length))?,
     }
     stdout::flush(&mut out)
 }
@@ -57,8 +59,6 @@ fn main(rt: HostRuntime) -> Result<(), Failure> {
     let mut form = [0u8; CHUNK_LIMIT];
     let written = canonical(chunk, &mut form);
     let printed = print(&rt, &form, written).map_err(Failure::Output);
-    if let Written::Refused(refusal) = written {
-        stderr::refused(&rt, chunk, refusal.number)?;
-    }
+    stderr::refused(&rt, chunk, written.err())?;
     printed
 }

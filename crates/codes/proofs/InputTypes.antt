@@ -1,9 +1,9 @@
 -- ResourceInputType is D3D_SHADER_INPUT_TYPE, row for row, and its numbers are those up to 13: computed over the table, once for each.
 use mathlib.Core.List.{List, [], ◌∷◌}
-use mathlib.Core.Option.{some}
 use mathlib.Core.Path.{◌≡◌, refl, ap, ◌∙◌}
 use Prim.Native.Nat.{ℕ}
 use lib.Dec.{leb}
+use Rattle.std.specs.Prelude.{Result, Some}
 use Rattle.codes.specs.Table.{lookup, known, is_row}
 use Rattle.codes.specs.Microsoft.{input_types}
 use Rattle.codes.specs.InputType.{input_type_row, input_type_answer}
@@ -12,8 +12,7 @@ use Rattle.codes.specs.declared.input_type.ResourceInputType.TheVariants.{CBuffe
 use Rattle.codes.specs.declared.input_type.ResourceInputType.TheVariants.{UavRwStructured, ByteAddress, UavRwByteAddress, UavAppendStructured}
 use Rattle.codes.specs.declared.input_type.ResourceInputType.TheVariants.{UavConsumeStructured, UavRwStructuredWithCounter}
 use Rattle.codes.specs.declared.input_type.ResourceInputType.TheVariants.{RtAccelerationStructure, UavFeedbackTexture}
-use Rattle.codes.specs.declared.input_type.InputTypeCode.{InputTypeCode}
-use Rattle.codes.specs.declared.input_type.InputTypeCode.TheVariants.{Known, Unknown}
+use Rattle.codes.specs.declared.unknown.UnknownCode.{UnknownCode}
 use Rattle.codes.proofs.Lookup.{known_up_to}
 use Rattle.codes.proofs.BothWays.{Rows, BothWays, case_at, both_ways}
 
@@ -35,7 +34,7 @@ cases =
     ∷ UavFeedbackTexture
     ∷ []
 
-found : (x : ResourceInputType) → case_at input_type_row cases (input_type_row x).1 ≡ some x
+found : (x : ResourceInputType) → case_at input_type_row cases (input_type_row x).1 ≡ Some x
 unfolding case_at
 found CBuffer = refl
 found TBuffer = refl
@@ -56,15 +55,15 @@ pub input_type_rows : Rows input_types input_type_row cases
 unfolding input_types
 input_type_rows = record { table_is_rows = refl; found = found }
 
-pub input_type_both_ways : BothWays input_types input_type_row input_type_answer Known
-input_type_both_ways = both_ways input_type_rows input_type_answer Known Unknown (λ x. refl) refl (λ P k u. elim [ Known x ↦ k x | Unknown ↦ u ])
+pub input_type_both_ways : BothWays input_types input_type_row input_type_answer
+input_type_both_ways = both_ways input_type_rows
 
 -- The numbers that the table has are those up to 13.
 pub input_type_known_lem : (n : ℕ) → known input_types n ≡ leb n 13
 unfolding input_types
 input_type_known_lem = known_up_to input_types 13 tt refl
 
--- The answer of from_u32 is a row exactly for those.
-pub input_type_accepted : (n : ℕ) (r : InputTypeCode) → input_type_answer r ≡ lookup input_types n → is_row (input_type_answer r) ≡ leb n 13
+-- The answer of try_from is a row exactly for those.
+pub input_type_accepted : (n : ℕ) (r : Result ResourceInputType UnknownCode) → input_type_answer r ≡ lookup input_types n → is_row (input_type_answer r) ≡ leb n 13
 unfolding known
 input_type_accepted n r e = ap is_row e ∙ input_type_known_lem n

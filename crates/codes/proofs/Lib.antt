@@ -1,4 +1,5 @@
 pub mod Lookup
+pub mod Known
 pub mod BothWays
 pub mod InputTypes
 pub mod Dimensions

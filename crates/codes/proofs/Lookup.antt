@@ -1,9 +1,9 @@
--- Looking a number up, whatever the table: a row that is found has the number; a number that no row has is not found; where the numbers count up from
--- 0, those that are known are exactly those up to the last. All by going down the table. An answer that names the row at a number says whether the
--- number is known.
+-- Looking a number up, whatever the table: a row that is found has the number; where the numbers count up from 0, those that are known are exactly
+-- those up to the last; and else they are those of the rows. All by going down the table.
+use Rattle.std.specs.Prelude.{Some}
+use Rattle.std.proofs.lemmas.Option.{same_Some, none-some}
 use mathlib.Core.Bool.{Bool, true, false, ◌&&◌, ◌||◌}
 use mathlib.Core.List.{List, [], ◌∷◌, map}
-use mathlib.Core.Option.{Option, none, some, some-injective, none-ne-some}
 use mathlib.Core.Path.{◌≡◌, refl, sym, ap, ◌∙◌}
 use Prim.Native.Nat.{ℕ, zero, suc, ◌+◌}
 use native.Mathlib.Nat.{zero-add}
@@ -12,11 +12,6 @@ use lib.Dec.{T, eqb, ltb, leb, eqb→eq, leb-zero, leb-suc-zero, leb-suc-suc}
 use lib.ListN.{length}
 use borrow.Author.Tests.{eqb-true, eq-eqb, ne_eqb}
 use Rattle.codes.specs.Table.{Table, lookup, is_row, known}
-
--- No row has the number, in the form in which the `_` of a match on the rows' numbers knows it: P, and one fact more for each row.
-abbrev pub NoRow : {A : Type 0} → Type 0 → Table A → ℕ → Type 0
-NoRow P [] n = P
-NoRow P (row ∷ rows) n = NoRow (P × (n ≡ row.1 → ⊥)) rows n
 
 -- The rows' numbers count up from k.
 abbrev pub consecutive : {A : Type 0} → ℕ → Table A → Bool
@@ -33,30 +28,15 @@ both true b t = (tt, t)
 both false b t = absurd t
 
 module _ {A : Type 0} where
-  not_found_and : (P : Type 0) (table : Table A) (n : ℕ) → NoRow P table n → P × (lookup table n ≡ none)
+  pub found_has_number : (table : Table A) (n : ℕ) (row : A × ℕ) → lookup table n ≡ Some row → row.1 ≡ n
   unfolding lookup
-  not_found_and P [] n h = (h, refl)
-  not_found_and P (row ∷ rows) n h =
-      let below : (P × (n ≡ row.1 → ⊥)) × (lookup rows n ≡ none) = not_found_and (P × (n ≡ row.1 → ⊥)) rows n h in
-      (below.0.0, rw (ne_eqb row.1 n (λ e. below.0.1 (sym e)), lookup) below.1)
-
-  pub not_found : (table : Table A) (n : ℕ) → NoRow Unit table n → lookup table n ≡ none
-  not_found table n h = (not_found_and Unit table n h).1
-
-  pub found_has_number : (table : Table A) (n : ℕ) (row : A × ℕ) → lookup table n ≡ some row → row.1 ≡ n
-  unfolding lookup
-  found_has_number [] n row e = absurd (none-ne-some row e)
+  found_has_number [] n row e = absurd (none-some row e)
   found_has_number (first ∷ rows) n row e = go (eqb first.1 n) refl (found_has_number rows n row) e
     where
-      go : (b : Bool) → eqb first.1 n ≡ b → (lookup rows n ≡ some row → row.1 ≡ n)
-          → elim b [ true ↦ some first | false ↦ lookup rows n ] ≡ some row → row.1 ≡ n
-      go true q later e = ap (λ (r : A × ℕ). r.1) (sym (some-injective first row e)) ∙ eqb-true first.1 n q
+      go : (b : Bool) → eqb first.1 n ≡ b → (lookup rows n ≡ Some row → row.1 ≡ n)
+          → elim b [ true ↦ Some first | false ↦ lookup rows n ] ≡ Some row → row.1 ≡ n
+      go true q later e = ap (λ (r : A × ℕ). r.1) (sym (same_Some first row e)) ∙ eqb-true first.1 n q
       go false q later e = later e
-
-  pub answer_known : {R : Type 0} (answer : R → Option (A × ℕ)) (table : Table A) (n : ℕ) {r s : R} → answer r ≡ lookup table n → r ≡ s
-      → is_row (answer s) ≡ known table n
-  unfolding known
-  answer_known answer table n e is = ap (λ r. is_row (answer r)) (sym is) ∙ ap is_row e
 
   consecutive_row : (k : ℕ) (row : A × ℕ) (rows : Table A) → T (consecutive k (row ∷ rows)) → (row.1 ≡ k) × T (consecutive (suc k) rows)
   consecutive_row k row rows t =
@@ -85,6 +65,6 @@ module _ {A : Type 0} where
   known_one_of (row ∷ rows) n = go (eqb row.1 n) (known_one_of rows n)
     where
       go : (b : Bool) → known rows n ≡ one_of (map (λ (row : A × ℕ). row.1) rows) n
-          → is_row {A = A × ℕ} (elim b [ true ↦ some row | false ↦ lookup rows n ]) ≡ b || one_of (map (λ (row : A × ℕ). row.1) rows) n
+          → is_row {A = A × ℕ} (elim b [ true ↦ Some row | false ↦ lookup rows n ]) ≡ b || one_of (map (λ (row : A × ℕ). row.1) rows) n
       go true later = refl
       go false later = later

@@ -1,6 +1,6 @@
 -- Which row of D3D_SRV_DIMENSION each case of ResourceDimension is, and which row an answer names.
-use Rattle.std.proofs.Math.Option.{Option, none, some}
-use Rattle.std.specs.Prelude.{ℕ}
+use Rattle.std.specs.Prelude.{ℕ, Result, Option}
+use Rattle.codes.specs.Table.{row_of}
 use Rattle.codes.specs.Microsoft.{D3D_SRV_DIMENSION, D3D_SRV_DIMENSION_UNKNOWN, D3D_SRV_DIMENSION_BUFFER, D3D_SRV_DIMENSION_TEXTURE1D}
 use Rattle.codes.specs.Microsoft.{D3D_SRV_DIMENSION_TEXTURE1DARRAY, D3D_SRV_DIMENSION_TEXTURE2D, D3D_SRV_DIMENSION_TEXTURE2DARRAY}
 use Rattle.codes.specs.Microsoft.{D3D_SRV_DIMENSION_TEXTURE2DMS, D3D_SRV_DIMENSION_TEXTURE2DMSARRAY, D3D_SRV_DIMENSION_TEXTURE3D}
@@ -9,8 +9,7 @@ use Rattle.codes.specs.declared.dimension.ResourceDimension.{ResourceDimension}
 use Rattle.codes.specs.declared.dimension.ResourceDimension.TheVariants.{Unknown, Buffer, Texture1D, Texture1DArray, Texture2D, Texture2DArray}
 use Rattle.codes.specs.declared.dimension.ResourceDimension.TheVariants.{Texture2DMS, Texture2DMSArray, Texture3D, TextureCube}
 use Rattle.codes.specs.declared.dimension.ResourceDimension.TheVariants.{TextureCubeArray, BufferEx}
-use Rattle.codes.specs.declared.dimension.DimensionCode.{DimensionCode}
-use Rattle.codes.specs.declared.dimension.DimensionCode.TheVariants.{Known, Unknown as NoDimension}
+use Rattle.codes.specs.declared.unknown.UnknownCode.{UnknownCode}
 
 abbrev pub dimension_row : ResourceDimension → D3D_SRV_DIMENSION × ℕ
 dimension_row Unknown = (D3D_SRV_DIMENSION_UNKNOWN, 0)
@@ -26,6 +25,5 @@ dimension_row TextureCube = (D3D_SRV_DIMENSION_TEXTURECUBE, 9)
 dimension_row TextureCubeArray = (D3D_SRV_DIMENSION_TEXTURECUBEARRAY, 10)
 dimension_row BufferEx = (D3D_SRV_DIMENSION_BUFFEREX, 11)
 
-abbrev pub dimension_answer : DimensionCode → Option (D3D_SRV_DIMENSION × ℕ)
-dimension_answer (Known dimension) = some (dimension_row dimension)
-dimension_answer NoDimension = none
+abbrev pub dimension_answer : Result ResourceDimension UnknownCode → Option (D3D_SRV_DIMENSION × ℕ)
+dimension_answer = row_of dimension_row

@@ -1,6 +1,6 @@
 -- Which row of D3D_SHADER_INPUT_TYPE each case of ResourceInputType is, and which row an answer names.
-use Rattle.std.proofs.Math.Option.{Option, none, some}
-use Rattle.std.specs.Prelude.{ℕ}
+use Rattle.std.specs.Prelude.{ℕ, Result, Option}
+use Rattle.codes.specs.Table.{row_of}
 use Rattle.codes.specs.Microsoft.{D3D_SHADER_INPUT_TYPE, D3D_SIT_CBUFFER, D3D_SIT_TBUFFER, D3D_SIT_TEXTURE, D3D_SIT_SAMPLER}
 use Rattle.codes.specs.Microsoft.{D3D_SIT_UAV_RWTYPED, D3D_SIT_STRUCTURED, D3D_SIT_UAV_RWSTRUCTURED, D3D_SIT_BYTEADDRESS}
 use Rattle.codes.specs.Microsoft.{D3D_SIT_UAV_RWBYTEADDRESS, D3D_SIT_UAV_APPEND_STRUCTURED, D3D_SIT_UAV_CONSUME_STRUCTURED}
@@ -10,8 +10,7 @@ use Rattle.codes.specs.declared.input_type.ResourceInputType.TheVariants.{CBuffe
 use Rattle.codes.specs.declared.input_type.ResourceInputType.TheVariants.{UavRwStructured, ByteAddress, UavRwByteAddress, UavAppendStructured}
 use Rattle.codes.specs.declared.input_type.ResourceInputType.TheVariants.{UavConsumeStructured, UavRwStructuredWithCounter}
 use Rattle.codes.specs.declared.input_type.ResourceInputType.TheVariants.{RtAccelerationStructure, UavFeedbackTexture}
-use Rattle.codes.specs.declared.input_type.InputTypeCode.{InputTypeCode}
-use Rattle.codes.specs.declared.input_type.InputTypeCode.TheVariants.{Known, Unknown}
+use Rattle.codes.specs.declared.unknown.UnknownCode.{UnknownCode}
 
 abbrev pub input_type_row : ResourceInputType → D3D_SHADER_INPUT_TYPE × ℕ
 input_type_row CBuffer = (D3D_SIT_CBUFFER, 0)
@@ -29,6 +28,5 @@ input_type_row UavRwStructuredWithCounter = (D3D_SIT_UAV_RWSTRUCTURED_WITH_COUNT
 input_type_row RtAccelerationStructure = (D3D_SIT_RTACCELERATIONSTRUCTURE, 12)
 input_type_row UavFeedbackTexture = (D3D_SIT_UAV_FEEDBACKTEXTURE, 13)
 
-abbrev pub input_type_answer : InputTypeCode → Option (D3D_SHADER_INPUT_TYPE × ℕ)
-input_type_answer (Known type) = some (input_type_row type)
-input_type_answer Unknown = none
+abbrev pub input_type_answer : Result ResourceInputType UnknownCode → Option (D3D_SHADER_INPUT_TYPE × ℕ)
+input_type_answer = row_of input_type_row

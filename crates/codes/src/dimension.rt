@@ -1,10 +1,12 @@
 // The dimension of a bound resource (D3D_SRV_DIMENSION). Shader bytecode numbers dimensions otherwise: there 3 is a 2D texture, here a 1D array.
-ghost use Rattle.std.specs.Prelude.{◌≡◌};
-ghost use Rattle.codes.specs.Table.{lookup, known};
+ghost use Rattle.std.specs.Prelude.{◌≡◌, IfErr};
+ghost use Rattle.codes.specs.Table.{lookup};
 ghost use Rattle.codes.specs.Microsoft.{srv_dimensions};
 ghost use Rattle.codes.specs.Dimension.{dimension_row, dimension_answer};
 
-#[derive(Clone, Copy)]
+use crate::unknown::UnknownCode;
+
+#[derive(Clone, Copy, Debug, PartialEq, Eq, Hash)]
 pub enum ResourceDimension {
     Unknown,
     Buffer,
@@ -20,50 +22,36 @@ pub enum ResourceDimension {
     BufferEx,
 }
 
-// What a number says: one of Microsoft's dimensions (0 is the one called unknown), or none.
-#[derive(Clone, Copy)]
-pub enum DimensionCode {
-    Known(ResourceDimension),
-    Unknown,
+impl TryFrom<u32> for ResourceDimension {
+    type Error = UnknownCode;
+
+    ghost try_from_gives = { λ v r. (dimension_answer r ≡ lookup srv_dimensions v) × IfErr r (λ e. e.0 ≡ v) };
+
+    #[tactic(auto, unfolding(crate::specs::Table::lookup, crate::specs::Microsoft::srv_dimensions))]
+    fn try_from(v: u32) -> Result<Self, UnknownCode> {
+        match v {
+            0 => Ok(ResourceDimension::Unknown),
+            1 => Ok(ResourceDimension::Buffer),
+            2 => Ok(ResourceDimension::Texture1D),
+            3 => Ok(ResourceDimension::Texture1DArray),
+            4 => Ok(ResourceDimension::Texture2D),
+            5 => Ok(ResourceDimension::Texture2DArray),
+            6 => Ok(ResourceDimension::Texture2DMS),
+            7 => Ok(ResourceDimension::Texture2DMSArray),
+            8 => Ok(ResourceDimension::Texture3D),
+            9 => Ok(ResourceDimension::TextureCube),
+            10 => Ok(ResourceDimension::TextureCubeArray),
+            11 => Ok(ResourceDimension::BufferEx),
+            _ => Err(UnknownCode(v)),
+        }
+    }
 }
 
-impl ResourceDimension {
-    #[tactic(auto, unfolding(crate::specs::Table::lookup, crate::specs::Microsoft::srv_dimensions))]
-    pub fn from_u32(v: u32) -> DimensionCode
-        ensures { dimension_answer result ≡ lookup srv_dimensions v }
-    {
-        match v {
-            0 => DimensionCode::Known(ResourceDimension::Unknown),
-            1 => DimensionCode::Known(ResourceDimension::Buffer),
-            2 => DimensionCode::Known(ResourceDimension::Texture1D),
-            3 => DimensionCode::Known(ResourceDimension::Texture1DArray),
-            4 => DimensionCode::Known(ResourceDimension::Texture2D),
-            5 => DimensionCode::Known(ResourceDimension::Texture2DArray),
-            6 => DimensionCode::Known(ResourceDimension::Texture2DMS),
-            7 => DimensionCode::Known(ResourceDimension::Texture2DMSArray),
-            8 => DimensionCode::Known(ResourceDimension::Texture3D),
-            9 => DimensionCode::Known(ResourceDimension::TextureCube),
-            10 => DimensionCode::Known(ResourceDimension::TextureCubeArray),
-            11 => DimensionCode::Known(ResourceDimension::BufferEx),
-            _ => DimensionCode::Unknown,
-        }
-    }
+impl From<ResourceDimension> for u32 {
+    ghost from_gives = { λ x n. n ≡ (dimension_row x).1 };
 
-    // Whether the number is one of Microsoft's dimensions.
-    pub fn is_known(v: u32) -> bool
-        ensures { result ≡ known srv_dimensions v }
-    {
-        let code = ResourceDimension::from_u32(v);
-        match code {
-            DimensionCode::Known(_) => true,
-            DimensionCode::Unknown => false,
-        }
-    }
-
-    pub fn to_u32(self) -> u32
-        ensures { result ≡ (dimension_row self).1 }
-    {
-        match self {
+    fn from(x: ResourceDimension) -> u32 {
+        match x {
             ResourceDimension::Unknown => 0,
             ResourceDimension::Buffer => 1,
             ResourceDimension::Texture1D => 2,

@@ -1,10 +1,12 @@
 // What a binding is bound to (D3D_SHADER_INPUT_TYPE).
-ghost use Rattle.std.specs.Prelude.{◌≡◌};
-ghost use Rattle.codes.specs.Table.{lookup, known};
+ghost use Rattle.std.specs.Prelude.{◌≡◌, IfErr};
+ghost use Rattle.codes.specs.Table.{lookup};
 ghost use Rattle.codes.specs.Microsoft.{input_types};
 ghost use Rattle.codes.specs.InputType.{input_type_row, input_type_answer};
 
-#[derive(Clone, Copy)]
+use crate::unknown::UnknownCode;
+
+#[derive(Clone, Copy, Debug, PartialEq, Eq, Hash)]
 pub enum ResourceInputType {
     CBuffer,
     TBuffer,
@@ -22,52 +24,38 @@ pub enum ResourceInputType {
     UavFeedbackTexture,
 }
 
-// What a number says: one of Microsoft's input types, or none.
-#[derive(Clone, Copy)]
-pub enum InputTypeCode {
-    Known(ResourceInputType),
-    Unknown,
+impl TryFrom<u32> for ResourceInputType {
+    type Error = UnknownCode;
+
+    ghost try_from_gives = { λ v r. (input_type_answer r ≡ lookup input_types v) × IfErr r (λ e. e.0 ≡ v) };
+
+    #[tactic(auto, unfolding(crate::specs::Table::lookup, crate::specs::Microsoft::input_types))]
+    fn try_from(v: u32) -> Result<Self, UnknownCode> {
+        match v {
+            0 => Ok(ResourceInputType::CBuffer),
+            1 => Ok(ResourceInputType::TBuffer),
+            2 => Ok(ResourceInputType::Texture),
+            3 => Ok(ResourceInputType::Sampler),
+            4 => Ok(ResourceInputType::UavRwTyped),
+            5 => Ok(ResourceInputType::Structured),
+            6 => Ok(ResourceInputType::UavRwStructured),
+            7 => Ok(ResourceInputType::ByteAddress),
+            8 => Ok(ResourceInputType::UavRwByteAddress),
+            9 => Ok(ResourceInputType::UavAppendStructured),
+            10 => Ok(ResourceInputType::UavConsumeStructured),
+            11 => Ok(ResourceInputType::UavRwStructuredWithCounter),
+            12 => Ok(ResourceInputType::RtAccelerationStructure),
+            13 => Ok(ResourceInputType::UavFeedbackTexture),
+            _ => Err(UnknownCode(v)),
+        }
+    }
 }
 
-impl ResourceInputType {
-    #[tactic(auto, unfolding(crate::specs::Table::lookup, crate::specs::Microsoft::input_types))]
-    pub fn from_u32(v: u32) -> InputTypeCode
-        ensures { input_type_answer result ≡ lookup input_types v }
-    {
-        match v {
-            0 => InputTypeCode::Known(ResourceInputType::CBuffer),
-            1 => InputTypeCode::Known(ResourceInputType::TBuffer),
-            2 => InputTypeCode::Known(ResourceInputType::Texture),
-            3 => InputTypeCode::Known(ResourceInputType::Sampler),
-            4 => InputTypeCode::Known(ResourceInputType::UavRwTyped),
-            5 => InputTypeCode::Known(ResourceInputType::Structured),
-            6 => InputTypeCode::Known(ResourceInputType::UavRwStructured),
-            7 => InputTypeCode::Known(ResourceInputType::ByteAddress),
-            8 => InputTypeCode::Known(ResourceInputType::UavRwByteAddress),
-            9 => InputTypeCode::Known(ResourceInputType::UavAppendStructured),
-            10 => InputTypeCode::Known(ResourceInputType::UavConsumeStructured),
-            11 => InputTypeCode::Known(ResourceInputType::UavRwStructuredWithCounter),
-            12 => InputTypeCode::Known(ResourceInputType::RtAccelerationStructure),
-            13 => InputTypeCode::Known(ResourceInputType::UavFeedbackTexture),
-            _ => InputTypeCode::Unknown,
-        }
-    }
+impl From<ResourceInputType> for u32 {
+    ghost from_gives = { λ x n. n ≡ (input_type_row x).1 };
 
-    // Whether the number is one of Microsoft's input types.
-    pub fn is_known(v: u32) -> bool
-        ensures { result ≡ known input_types v }
-    {
-        let code = ResourceInputType::from_u32(v);
-        match code {
-            InputTypeCode::Known(_) => true,
-            InputTypeCode::Unknown => false,
-        }
-    }
-
-    pub fn to_u32(self) -> u32
-        ensures { result ≡ (input_type_row self).1 }
-    {
-        match self {
+    fn from(x: ResourceInputType) -> u32 {
+        match x {
             ResourceInputType::CBuffer => 0,
             ResourceInputType::TBuffer => 1,
             ResourceInputType::Texture => 2,

@@ -1,10 +1,13 @@
-// The codes of an RDEF chunk: Microsoft's enumerations as enums, and the two flag words, which the source keeps apart.
+// The codes of an RDEF chunk: Microsoft's enumerations as enums. The two flag words are crate flags'.
+// Each conversion is its table, arm by arm: one macro for all the impls is not allowed, and a search in a table of pairs is no plainer.
 #![tactic(auto)]
 
 mod dimension;
 mod input_type;
+mod unknown;
 mod variable;
 
-pub use dimension::{DimensionCode, ResourceDimension};
-pub use input_type::{InputTypeCode, ResourceInputType};
-pub use variable::{BaseType, BaseTypeCode, VariableClass, VariableClassCode};
+pub use dimension::ResourceDimension;
+pub use input_type::ResourceInputType;
+pub use unknown::UnknownCode;
+pub use variable::{BaseType, VariableClass};

@@ -1,10 +1,12 @@
 // A variable's class (D3D_SHADER_VARIABLE_CLASS), and the variable types (D3D_SHADER_VARIABLE_TYPE) that have a spelling.
-ghost use Rattle.std.specs.Prelude.{◌≡◌};
+ghost use Rattle.std.specs.Prelude.{◌≡◌, IfErr};
 ghost use Rattle.codes.specs.Table.{lookup};
 ghost use Rattle.codes.specs.Microsoft.{variable_classes};
 ghost use Rattle.codes.specs.Variable.{base_types, class_row, class_answer, base_type_row, base_type_answer};
 
-#[derive(Clone, Copy)]
+use crate::unknown::UnknownCode;
+
+#[derive(Clone, Copy, Debug, PartialEq, Eq, Hash)]
 pub enum VariableClass {
     Scalar,
     Vector,
@@ -16,15 +18,8 @@ pub enum VariableClass {
     InterfacePointer,
 }
 
-// What a number says: one of Microsoft's classes, or none.
-#[derive(Clone, Copy)]
-pub enum VariableClassCode {
-    Known(VariableClass),
-    Unknown,
-}
-
 // The variable types that HLSL spells by a word: bool, int, float, uint, double.
-#[derive(Clone, Copy)]
+#[derive(Clone, Copy, Debug, PartialEq, Eq, Hash)]
 pub enum BaseType {
     Bool,
     Int,
@@ -33,35 +28,32 @@ pub enum BaseType {
     Double,
 }
 
-// What a number says: a variable type with a spelling, or another.
-#[derive(Clone, Copy)]
-pub enum BaseTypeCode {
-    Known(BaseType),
-    Unknown,
-}
+impl TryFrom<u32> for VariableClass {
+    type Error = UnknownCode;
 
-impl VariableClass {
+    ghost try_from_gives = { λ v r. (class_answer r ≡ lookup variable_classes v) × IfErr r (λ e. e.0 ≡ v) };
+
     #[tactic(auto, unfolding(crate::specs::Table::lookup, crate::specs::Microsoft::variable_classes))]
-    pub fn from_u32(v: u32) -> VariableClassCode
-        ensures { class_answer result ≡ lookup variable_classes v }
-    {
+    fn try_from(v: u32) -> Result<Self, UnknownCode> {
         match v {
-            0 => VariableClassCode::Known(VariableClass::Scalar),
-            1 => VariableClassCode::Known(VariableClass::Vector),
-            2 => VariableClassCode::Known(VariableClass::MatrixRows),
-            3 => VariableClassCode::Known(VariableClass::MatrixColumns),
-            4 => VariableClassCode::Known(VariableClass::Object),
-            5 => VariableClassCode::Known(VariableClass::Struct),
-            6 => VariableClassCode::Known(VariableClass::InterfaceClass),
-            7 => VariableClassCode::Known(VariableClass::InterfacePointer),
-            _ => VariableClassCode::Unknown,
+            0 => Ok(VariableClass::Scalar),
+            1 => Ok(VariableClass::Vector),
+            2 => Ok(VariableClass::MatrixRows),
+            3 => Ok(VariableClass::MatrixColumns),
+            4 => Ok(VariableClass::Object),
+            5 => Ok(VariableClass::Struct),
+            6 => Ok(VariableClass::InterfaceClass),
+            7 => Ok(VariableClass::InterfacePointer),
+            _ => Err(UnknownCode(v)),
         }
     }
+}
 
-    pub fn to_u32(self) -> u32
-        ensures { result ≡ (class_row self).1 }
-    {
-        match self {
+impl From<VariableClass> for u32 {
+    ghost from_gives = { λ x n. n ≡ (class_row x).1 };
+
+    fn from(x: VariableClass) -> u32 {
+        match x {
             VariableClass::Scalar => 0,
             VariableClass::Vector => 1,
             VariableClass::MatrixRows => 2,
@@ -74,25 +66,29 @@ impl VariableClass {
     }
 }
 
-impl BaseType {
+impl TryFrom<u32> for BaseType {
+    type Error = UnknownCode;
+
+    ghost try_from_gives = { λ v r. (base_type_answer r ≡ lookup base_types v) × IfErr r (λ e. e.0 ≡ v) };
+
     #[tactic(auto, unfolding(crate::specs::Table::lookup, crate::specs::Variable::base_types))]
-    pub fn from_u32(v: u32) -> BaseTypeCode
-        ensures { base_type_answer result ≡ lookup base_types v }
-    {
+    fn try_from(v: u32) -> Result<Self, UnknownCode> {
         match v {
-            1 => BaseTypeCode::Known(BaseType::Bool),
-            2 => BaseTypeCode::Known(BaseType::Int),
-            3 => BaseTypeCode::Known(BaseType::Float),
-            19 => BaseTypeCode::Known(BaseType::Uint),
-            39 => BaseTypeCode::Known(BaseType::Double),
-            _ => BaseTypeCode::Unknown,
+            1 => Ok(BaseType::Bool),
+            2 => Ok(BaseType::Int),
+            3 => Ok(BaseType::Float),
+            19 => Ok(BaseType::Uint),
+            39 => Ok(BaseType::Double),
+            _ => Err(UnknownCode(v)),
         }
     }
+}
 
-    pub fn to_u32(self) -> u32
-        ensures { result ≡ (base_type_row self).1 }
-    {
-        match self {
+impl From<BaseType> for u32 {
+    ghost from_gives = { λ x n. n ≡ (base_type_row x).1 };
+
+    fn from(x: BaseType) -> u32 {
+        match x {
             BaseType::Bool => 1,
             BaseType::Int => 2,
             BaseType::Float => 3,

@@ -5,11 +5,3 @@ mod records;
 mod reflections;
 
 pub use reflections::same_reflection;
-
-// Whether variables of two tables are equal, and where they are, the nodes after their types.
-#[derive(Clone, Copy)]
-pub struct ComparedVariables {
-    pub same: bool,
-    pub root: usize,
-    pub other_root: usize,
-}

@@ -8,7 +8,6 @@ ghost use Rattle.tables.specs.TableReflection.{root_at, first_variable, buffer_i
 ghost use Rattle.compare.specs.Fields.{binding_in_table};
 ghost use Rattle.compare.specs.Compared.{VariablesCompared};
 
-use crate::ComparedVariables;
 use crate::records::{same_binding, same_fields, same_numbers, same_variable};
 use reflection::{ResourceDef, TYPE_LEVELS};
 
@@ -23,19 +22,16 @@ fn same_bindings<'a>(
     ensures { result ≡ same_list (same_binding (same_name chunk.now edits.now) (same_name chunk.now edits.now))
         (records_from (binding_in_table bindings.now) 0 count) (records_from (binding_in_table others.now) 0 count) }
 {
-    let mut i = 0;
-    while i < count {
+    (0..count).all(|i| {
         let x = tables::binding_at(bindings, i);
         let y = tables::binding_at(others, i);
-        if !same_binding(chunk, edits, x, y) {
-            return false;
-        }
-        i += 1;
-    }
-    true
+        same_binding(chunk, edits, x, y)
+    })
 }
 
-// Whether `count` variables from `first` on, of two tables are equal, whose types begin at the nodes `root` and `other_root`.
+// The nodes after the types of `count` variables from `first` on, of two tables, where the variables are equal. Their types begin at the nodes `root` and
+// `other_root`.
+#[tactic(auto, using(crate::proofs::Buffers::variable_walk))]
 fn same_variables<'a>(
     chunk: &'a [u8],
     edits: &'a [u8],
@@ -47,38 +43,29 @@ fn same_variables<'a>(
     count: usize,
     root: usize,
     other_root: usize,
-) -> ComparedVariables
+) -> Option<(usize, usize)>
     requires root_value { (root ≡ root_at types.now first) × (other_root ≡ root_at other_types.now first) }
     requires count_bound { (first + count ≤ variable_room)
         × ((root_at types.now (first + count) ≤ type_room) × (root_at other_types.now (first + count) ≤ type_room)) }
     ensures { VariablesCompared (same_name chunk.now edits.now) variables.now types.now
         other_variables.now other_types.now first count result }
 {
-    let mut i = 0;
     let mut k = root;
     let mut l = other_root;
-    while i < count {
-        let x = tables::variable_at(variables, first + i);
-        let y = tables::variable_at(other_variables, first + i);
+    for i in first..first + count {
+        let x = tables::variable_at(variables, i);
+        let y = tables::variable_at(other_variables, i);
         if !same_variable(chunk, edits, x, types, k, y, other_types, l) {
-            return ComparedVariables {
-                same: false,
-                root: k,
-                other_root: l,
-            };
+            return None;
         }
         k = compare_types::skip_type(types, k, TYPE_LEVELS);
         l = compare_types::skip_type(other_types, l, TYPE_LEVELS);
-        i += 1;
     }
-    ComparedVariables {
-        same: true,
-        root: k,
-        other_root: l,
-    }
+    Some((k, l))
 }
 
 // Whether the first buffers of two tables are equal, with their variables.
+#[tactic(auto, using(crate::proofs::Buffers::buffer_walk))]
 fn same_buffers<'a>(
     chunk: &'a [u8],
     edits: &'a [u8],
@@ -97,21 +84,17 @@ fn same_buffers<'a>(
         (records_from (buffer_in_table buffers.now variables.now types.now) 0 count)
         (records_from (buffer_in_table other_buffers.now other_variables.now other_types.now) 0 count) }
 {
-    let mut i = 0;
     let mut first = 0;
     let mut root = 0;
     let mut other_root = 0;
-    while i < count {
+    for i in 0..count {
         let x = tables::buffer_at(buffers, i);
         let y = tables::buffer_at(other_buffers, i);
-        if !same_fields(chunk, edits, x, y) {
-            return false;
-        }
-        if x.variable_count != y.variable_count {
+        if !same_fields(chunk, edits, x, y) || x.variable_count != y.variable_count {
             return false;
         }
         let own = x.variable_count as usize;
-        let compared = same_variables(
+        let Some((after, other_after)) = same_variables(
             chunk,
             edits,
             variables,
@@ -122,19 +105,19 @@ fn same_buffers<'a>(
             own,
             root,
             other_root,
-        );
-        if !compared.same {
+        ) else {
             return false;
-        }
+        };
         first += own;
-        root = compared.root;
-        other_root = compared.other_root;
-        i += 1;
+        root = after;
+        other_root = other_after;
     }
     true
 }
 
 // Whether two reflections are equal, each in a header and its four tables: numbers, and names and defaults by their bytes in the chunk or the text of edits.
+// No derive says it: a reflection is a header and four lent tables.
+#[tactic(auto, using(crate::proofs::Buffers::reflection_tests))]
 pub fn same_reflection<'a>(
     chunk: &'a [u8],
     edits: &'a [u8],
@@ -156,36 +139,26 @@ pub fn same_reflection<'a>(
         (reflection_in_tables other other_bindings.now other_buffers.now other_variables.now
         other_types.now) }
 {
-    if !same_numbers(def, other) {
-        return false;
-    }
-    if !compare_types::same_name(chunk, edits, def.creator, other.creator) {
-        return false;
-    }
-    if def.binding_count != other.binding_count {
-        return false;
-    }
-    if !same_bindings(
-        chunk,
-        edits,
-        bindings,
-        other_bindings,
-        def.binding_count as usize,
-    ) {
-        return false;
-    }
-    if def.buffer_count != other.buffer_count {
-        return false;
-    }
-    same_buffers(
-        chunk,
-        edits,
-        buffers,
-        variables,
-        types,
-        other_buffers,
-        other_variables,
-        other_types,
-        def.buffer_count as usize,
-    )
+    same_numbers(def, other)
+        && compare_types::same_name(chunk, edits, def.creator, other.creator)
+        && def.binding_count == other.binding_count
+        && same_bindings(
+            chunk,
+            edits,
+            bindings,
+            other_bindings,
+            def.binding_count as usize,
+        )
+        && def.buffer_count == other.buffer_count
+        && same_buffers(
+            chunk,
+            edits,
+            buffers,
+            variables,
+            types,
+            other_buffers,
+            other_variables,
+            other_types,
+            def.buffer_count as usize,
+        )
 }

@@ -8,34 +8,12 @@ use lib.Dec.{eqb}
 use Rattle.text.specs.Same.{same_bytes}
 use Rattle.reflection.specs.declared.Text.{Text}
 use Rattle.reflection.specs.declared.TypeDesc.{TypeDesc as TypeRecord}
-use Rattle.reflection.specs.Reflection.{Members, no_member}
+use Rattle.reflection.specs.Reflection.{TypeDesc, Members, no_member}
 use Rattle.tables.specs.Records.{type_at}
 use Rattle.tables.specs.Decode.{node_from_table}
 use Rattle.write_spec.specs.Same.{numbers_of, same_type, same_members}
 use Rattle.tables.specs.Trees.{BuiltAt, node_at, has_member, members_at, tree_at, type_tree, members_of}
-use Rattle.tables.proofs.Trees.{type_is, members_flat, members_deep, members_none, members_more}
-
--- The numbers of two nodes.
-module _ (x y : TypeRecord) where
-  pub numbers_equal : x.class ≡ y.class → x.var_type ≡ y.var_type → x.rows ≡ y.rows → x.columns ≡ y.columns → x.elements ≡ y.elements
-      → x.extra0 ≡ y.extra0 → x.extra1 ≡ y.extra1 → x.extra2 ≡ y.extra2
-      → same_bytes (numbers_of (node_from_table x).numbers) (numbers_of (node_from_table y).numbers) ≡ eqb x.extra3 y.extra3
-  unfolding same_bytes numbers_of node_from_table
-  numbers_equal e₀ e₁ e₂ e₃ e₄ e₅ e₆ e₇ =
-      rw (
-        eq-eqb x.class y.class e₀,
-        eq-eqb x.var_type y.var_type e₁,
-        eq-eqb x.rows y.rows e₂,
-        eq-eqb x.columns y.columns e₃,
-        eq-eqb x.elements y.elements e₄,
-        eq-eqb x.extra0 y.extra0 e₅,
-        eq-eqb x.extra1 y.extra1 e₆,
-        eq-eqb x.extra2 y.extra2 e₇,
-      ) (and-true (eqb x.extra3 y.extra3))
-    where
-      and-true : (b : Bool) → (b && true) ≡ b
-      and-true true = refl
-      and-true false = refl
+use Rattle.tables.proofs.Trees.{tree_deep, type_is, members_flat, members_deep, member_left, member_inside, members_none, members_more}
 
 and-false : (b : Bool) → (b && false) ≡ false
 and-false true = refl
@@ -81,6 +59,23 @@ module _ (same : Text → Text → Bool) (types others : List ℕ) (levels a b :
           ∙ (λ i. same_members same (members_deep types levels a h i) (members_deep others levels b h i))
           ∙ (λ i. same_members same (members_at (tree_at types (levels - 1)) types (sym is_x i).member_count (a + 1)).it
           (members_at (tree_at others (levels - 1)) others (sym is_y i).member_count (b + 1)).it)
+
+-- Nodes whose numbers differ are not of equal types.
+pub other_nodes : (same : Text → Text → Bool) (types others : List ℕ) (levels a b : ℕ)
+    → same_bytes (numbers_of (node_at types a).numbers) (numbers_of (node_at others b).numbers) ≡ false
+    → same_type same (type_tree types levels a) (type_tree others levels b) ≡ false
+unfolding node_at
+other_nodes same types others levels a b = other_numbers same types others levels a b refl refl
+
+-- The node after a type whose record is x is the one after its members.
+pub next_deep : (types : List ℕ) (levels k : ℕ) {x : TypeRecord} → x ≡ type_at types k → (levels ≡ 0 → ⊥)
+    → (tree_at types levels k).next ≡ (members_at (tree_at types (levels - 1)) types x.member_count (k + 1)).next
+unfolding node_at node_from_table
+next_deep types levels k is_x h =
+    ap (λ (w : BuiltAt (TypeDesc Text)). w.next) (tree_deep types levels k h)
+    ∙ (λ i. (members_at (tree_at types (levels - 1)) types (sym is_x i).member_count (k + 1)).next)
+
+pub ruleset type_tests = (other_numbers, other_names, equal_flat, equal_deep)
 
 -- m members from node a of one table on and n from node b of another on.
 module _ (same : Text → Text → Bool) (types others : List ℕ) (levels m a n b : ℕ) where
@@ -139,3 +134,7 @@ module _ (same : Text → Text → Bool) (types others : List ℕ) (levels m a n
             ∙ rw (name, eq-eqb x.member_offset y.member_offset offset, e) (λ i.
             same_members same (members_at (tree_at types levels) types (m - 1) (sym is-next i)).it
             (members_at (tree_at others levels) others (n - 1) (sym is-next' i)).it)
+
+pub ruleset member_tests = (equal_ends, other_count, other_offset, other_member_name, other_type, equal_onward, member_left, member_inside)
+
+pub ruleset skip_tests = (member_left, member_inside, members_none, members_more)

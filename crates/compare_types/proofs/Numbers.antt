@@ -25,17 +25,35 @@ number_is_word types a (suc (suc (suc (suc (suc w))))) h = absurd (omega (arith,
 
 -- Node a of one table and node b of another, both inside.
 module _ (types others : List ℕ) (a b : ℕ) (here : a < length types / type_width) (there : b < length others / type_width) where
-  pub other_word : (w : ℕ) → w < 5 → (get_or types (a * type_width + w) 0 ≡ get_or others (b * type_width + w) 0 → ⊥)
+  other_word : (w : ℕ) → w < 5 → (get_or types (a * type_width + w) 0 ≡ get_or others (b * type_width + w) 0 → ⊥)
       → same_bytes (numbers_of (node_at types a).numbers) (numbers_of (node_at others b).numbers) ≡ false
   other_word w h d =
       other_byte (numbers_of (node_at types a).numbers) (numbers_of (node_at others b).numbers) w (λ e.
       d (sym (word_inside type_width types a w here) ∙ sym (number_is_word types a w h) ∙ e ∙ number_is_word others b w h
       ∙ word_inside type_width others b w there))
 
-  -- The same of word 0.
-  pub other_first_word : (get_or types (a * type_width) 0 ≡ get_or others (b * type_width) 0 → ⊥)
+  -- By the words that the code reads.
+  pub other_class : (get_or types (a * type_width) 0 ≡ get_or others (b * type_width) 0 → ⊥)
       → same_bytes (numbers_of (node_at types a).numbers) (numbers_of (node_at others b).numbers) ≡ false
-  other_first_word d =
+  other_class d =
       let i : a * type_width ≡ a * type_width + 0 = omega arith in
       let j : b * type_width + 0 ≡ b * type_width = omega arith in
       other_word 0 (omega arith) (λ e. d (ap (λ (k : ℕ). get_or types k 0) i ∙ e ∙ ap (λ (k : ℕ). get_or others k 0) j))
+
+  pub other_var_type : (get_or types (a * type_width + 1) 0 ≡ get_or others (b * type_width + 1) 0 → ⊥)
+      → same_bytes (numbers_of (node_at types a).numbers) (numbers_of (node_at others b).numbers) ≡ false
+  other_var_type = other_word 1 (omega arith)
+
+  pub other_rows : (get_or types (a * type_width + 2) 0 ≡ get_or others (b * type_width + 2) 0 → ⊥)
+      → same_bytes (numbers_of (node_at types a).numbers) (numbers_of (node_at others b).numbers) ≡ false
+  other_rows = other_word 2 (omega arith)
+
+  pub other_columns : (get_or types (a * type_width + 3) 0 ≡ get_or others (b * type_width + 3) 0 → ⊥)
+      → same_bytes (numbers_of (node_at types a).numbers) (numbers_of (node_at others b).numbers) ≡ false
+  other_columns = other_word 3 (omega arith)
+
+  pub other_elements : (get_or types (a * type_width + 4) 0 ≡ get_or others (b * type_width + 4) 0 → ⊥)
+      → same_bytes (numbers_of (node_at types a).numbers) (numbers_of (node_at others b).numbers) ≡ false
+  other_elements = other_word 4 (omega arith)
+
+pub ruleset other_words = (other_class, other_var_type, other_rows, other_columns, other_elements)

@@ -5,17 +5,16 @@ ghost use Rattle.tables.specs.Trees.{farthest_node, tree_at, members_at, has_mem
 use reflection::TYPE_WORDS;
 
 // Whether another member lies at node k, where `left` are left: members end where the table ends.
+#[tactic(auto, using(tables::proofs::Trees::some_member, tables::proofs::Trees::no_member_lem))]
 pub fn has_member(types: &[u32], left: u32, k: usize) -> bool
     ensures { result ≡ has_member types.now left k }
 {
-    if left == 0 {
-        return false;
-    }
-    k < types.len() / TYPE_WORDS
+    left != 0 && k < types.len() / TYPE_WORDS
 }
 
 // The node after the type at node k, whose members have at most so many levels.
 #[cycle(skip_members_skip_type)]
+#[tactic(auto, using(tables::proofs::Trees::tree_flat, crate::proofs::Equal::next_deep))]
 pub fn skip_type(types: &[u32], k: usize, levels: usize) -> usize
     requires { k ≤ farthest_node }
     ensures { result ≡ (tree_at types.now levels k).next }
@@ -29,6 +28,7 @@ pub fn skip_type(types: &[u32], k: usize, levels: usize) -> usize
 
 // The node after `count` members, the first of them at node k. A loop, so that the stack holds at most two frames for each level.
 #[cycle(skip_members_skip_type)]
+#[tactic(auto, using(crate::proofs::Equal::skip_tests))]
 fn skip_members(types: &[u32], count: u32, k: usize, levels: usize) -> usize
     ensures { result ≡ (members_at (tree_at types.now levels) types.now count k).next }
 {

@@ -1,20 +1,18 @@
 // Reads a chunk from standard input and prints the declaration of each variable, a line each, in walk order (document 01, "Spelling and listing").
 #![tactic(auto)]
 
-use read::Parsed;
 use reflection::{
-    BINDING_TABLE, BUFFER_TABLE, CHUNK_LIMIT, ResourceDef, TYPE_TABLE, Text, TypeDesc,
+    BINDING_TABLE, BUFFER_TABLE, CHUNK_LIMIT, Refusal, ResourceDef, TYPE_TABLE, Text, TypeDesc,
     VARIABLE_TABLE,
 };
 use std::io;
 use std::io::{BufWriter, Write};
 use stderr::Failure;
-use text_output::Written;
 
-// The declaration of a variable with that type and name, or why it has none: `refused` keeps the first such number. A line is made in `line`.
+// The declaration of a variable with that type and name, or why it has none: `refused` keeps the first refusal. A line is made in `line`.
 fn declaration_line<W: Write>(
     out: &mut W,
-    refused: &mut u32,
+    refused: &mut Option<Refusal>,
     line: &mut [u8; CHUNK_LIMIT],
     chunk: &[u8],
     t: TypeDesc,
@@ -22,11 +20,11 @@ fn declaration_line<W: Write>(
 ) -> io::Result<()> {
     let written = spelling::declaration(chunk, chunk, t, name, line);
     match written {
-        Written::Refused(refusal) => {
-            stderr::keep_first(refused, refusal.number);
-            stdout::put_refused(out, refusal.number)
+        Err(refusal) => {
+            stderr::keep_first(refused, refusal);
+            stdout::put_refused(out, refusal)
         }
-        Written::Wrote(n) => {
+        Ok(n) => {
             stdout::put_bytes(out, words::part(line, 0, n))?;
             stdout::put_byte(out, b'\n')
         }
@@ -49,7 +47,7 @@ fn node_after(types: &[u32], root: usize, type_count: u32) -> usize {
 // The declarations of all variables. The nodes of a variable's type follow those of the variables before it.
 fn declaration_lines<W: Write>(
     out: &mut W,
-    refused: &mut u32,
+    refused: &mut Option<Refusal>,
     chunk: &[u8],
     def: ResourceDef,
     variables: &[u32],
@@ -67,7 +65,7 @@ fn declaration_lines<W: Write>(
 }
 
 // Prints the declarations of the chunk's variables, or why it was refused. The tables have document 01's whole room.
-fn declare<W: Write>(out: &mut W, refused: &mut u32, chunk: &[u8]) -> io::Result<()> {
+fn declare<W: Write>(out: &mut W, refused: &mut Option<Refusal>, chunk: &[u8]) -> io::Result<()> {
     let mut bindings = [0u32; BINDING_TABLE];
     let mut buffers = [0u32; BUFFER_TABLE];
     let mut variables = [0u32; VARIABLE_TABLE];
@@ -80,16 +78,16 @@ fn declare<W: Write>(out: &mut W, refused: &mut u32, chunk: &[u8]) -> io::Result
         &mut types,
     );
     match parsed {
-        Parsed::Refused(refusal) => {
-            stderr::keep_first(refused, refusal.number);
-            stdout::put_refused(out, refusal.number)
+        Err(refusal) => {
+            stderr::keep_first(refused, refusal);
+            stdout::put_refused(out, refusal)
         }
-        Parsed::Read(def) => declaration_lines(out, refused, chunk, def, &variables, &types),
+        Ok(def) => declaration_lines(out, refused, chunk, def, &variables, &types),
     }
 }
 
 // `declare` to standard output.
-fn print(rt: &HostRuntime, refused: &mut u32, chunk: &[u8]) -> io::Result<()> {
+fn print(rt: &HostRuntime, refused: &mut Option<Refusal>, chunk: &[u8]) -> io::Result<()> {
     let mut out = BufWriter::new(rt.alloc(), rt.stdout())?;
     declare(&mut out, refused, chunk)?;
     stdout::flush(&mut out)
@@ -100,7 +98,7 @@ fn main(rt: HostRuntime) -> Result<(), Failure> {
     let mut bytes = [0u8; CHUNK_LIMIT + 1];
     let n = input::standard_full(&rt, &mut bytes).map_err(Failure::Input)?;
     let chunk = words::part(&bytes, 0, n);
-    let mut refused: u32 = 0;
+    let mut refused: Option<Refusal> = None;
     let printed = print(&rt, &mut refused, chunk);
     stderr::refused(&rt, chunk, refused)?;
     printed.map_err(Failure::Output)

@@ -1,30 +1,28 @@
 // Reads a chunk from standard input and prints each of its bindings as a listed line (document 01, "Spelling and listing").
 #![tactic(auto)]
 
-use read::Parsed;
 use reflection::{
-    BINDING_TABLE, BUFFER_TABLE, CHUNK_LIMIT, ResourceBinding, TYPE_TABLE, VARIABLE_TABLE,
+    BINDING_TABLE, BUFFER_TABLE, CHUNK_LIMIT, Refusal, ResourceBinding, TYPE_TABLE, VARIABLE_TABLE,
 };
 use std::io;
 use std::io::{BufWriter, Write};
 use stderr::Failure;
-use text_output::Written;
 
-// The line of a binding, or why it has none: `refused` keeps the first such number. A line is made in `line`.
+// The line of a binding, or why it has none: `refused` keeps the first refusal. A line is made in `line`.
 fn binding_line<W: Write>(
     out: &mut W,
-    refused: &mut u32,
+    refused: &mut Option<Refusal>,
     line: &mut [u8; CHUNK_LIMIT],
     chunk: &[u8],
     b: ResourceBinding,
 ) -> io::Result<()> {
     let written = listing::list_binding(chunk, chunk, b, line);
     match written {
-        Written::Refused(refusal) => {
-            stderr::keep_first(refused, refusal.number);
-            stdout::put_refused(out, refusal.number)
+        Err(refusal) => {
+            stderr::keep_first(refused, refusal);
+            stdout::put_refused(out, refusal)
         }
-        Written::Wrote(n) => {
+        Ok(n) => {
             stdout::put_bytes(out, words::part(line, 0, n))?;
             stdout::put_byte(out, b'\n')
         }
@@ -34,7 +32,7 @@ fn binding_line<W: Write>(
 // The lines of the first `count` bindings.
 fn binding_lines<W: Write>(
     out: &mut W,
-    refused: &mut u32,
+    refused: &mut Option<Refusal>,
     chunk: &[u8],
     bindings: &[u32],
     count: usize,
@@ -48,7 +46,7 @@ fn binding_lines<W: Write>(
 }
 
 // Prints the bindings of the chunk, or why it was refused. The tables have document 01's whole room.
-fn list<W: Write>(out: &mut W, refused: &mut u32, chunk: &[u8]) -> io::Result<()> {
+fn list<W: Write>(out: &mut W, refused: &mut Option<Refusal>, chunk: &[u8]) -> io::Result<()> {
     let mut bindings = [0u32; BINDING_TABLE];
     let mut buffers = [0u32; BUFFER_TABLE];
     let mut variables = [0u32; VARIABLE_TABLE];
@@ -61,18 +59,16 @@ fn list<W: Write>(out: &mut W, refused: &mut u32, chunk: &[u8]) -> io::Result<()
         &mut types,
     );
     match parsed {
-        Parsed::Refused(refusal) => {
-            stderr::keep_first(refused, refusal.number);
-            stdout::put_refused(out, refusal.number)
+        Err(refusal) => {
+            stderr::keep_first(refused, refusal);
+            stdout::put_refused(out, refusal)
         }
-        Parsed::Read(def) => {
-            binding_lines(out, refused, chunk, &bindings, def.binding_count as usize)
-        }
+        Ok(def) => { binding_lines(out, refused, chunk, &bindings, def.binding_count as usize) }
     }
 }
 
 // `list` to standard output.
-fn print(rt: &HostRuntime, refused: &mut u32, chunk: &[u8]) -> io::Result<()> {
+fn print(rt: &HostRuntime, refused: &mut Option<Refusal>, chunk: &[u8]) -> io::Result<()> {
     let mut out = BufWriter::new(rt.alloc(), rt.stdout())?;
     list(&mut out, refused, chunk)?;
     stdout::flush(&mut out)
@@ -83,7 +79,7 @@ fn main(rt: HostRuntime) -> Result<(), Failure> {
     let mut bytes = [0u8; CHUNK_LIMIT + 1];
     let n = input::standard_full(&rt, &mut bytes).map_err(Failure::Input)?;
     let chunk = words::part(&bytes, 0, n);
-    let mut refused: u32 = 0;
+    let mut refused: Option<Refusal> = None;
     let printed = print(&rt, &mut refused, chunk);
     stderr::refused(&rt, chunk, refused)?;
     printed.map_err(Failure::Output)

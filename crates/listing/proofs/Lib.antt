@@ -1,4 +1,3 @@
 pub mod Padding
-pub mod Tables
 pub mod Joined
 pub mod Listed

@@ -1,9 +1,9 @@
 -- A listed binding: document 01, "Spelling and listing" (`Display for ResourceBinding` in the Rust).
-use Rattle.std.specs.Prelude.{◌&&◌, cond, List, [], ◌∷◌, ◌++◌, ℕ, suc, ◌+◌, ◌-◌, ◌/◌, ◌%◌, eqb, leb, replicate}
+use Rattle.reflection.specs.Outcome.{Outcome}
+use Rattle.reflection.specs.declared.refusal.Refusal.TheVariants.{NotReadable}
+use Rattle.std.specs.Prelude.{◌&&◌, cond, List, [], ◌∷◌, ◌++◌, ℕ, suc, ◌+◌, ◌-◌, ◌/◌, ◌%◌, eqb, leb, replicate, Ok, Err}
 use Rattle.flags.specs.Flags.{flag}
 use Rattle.reflection.specs.declared.ResourceBinding.{ResourceBinding}
-use Rattle.reflection.specs.Outcome.{Outcome, ok, refused, because}
-use Rattle.reflection.specs.Refusals.{not_readable}
 use Rattle.reflection.specs.Texts.{text_bytes}
 use Rattle.text_output.specs.Digits.{decimal, hex}
 use Rattle.text_output.specs.Ascii.{ascii}
@@ -51,8 +51,8 @@ columns b =
 unfoldable pub listed : List ℕ → List ℕ → ResourceBinding → Outcome (List ℕ)
 listed chunk edits b =
     cond (printable chunk edits b.name)
-    (ok (pad_to 20 (text_bytes chunk edits b.name) ++ (32 ∷ columns b)))
-    (refused (because not_readable))
+    (Ok (pad_to 20 (text_bytes chunk edits b.name) ++ (32 ∷ columns b)))
+    (Err NotReadable)
 
 -- How many components a texture returns: 1 plus the number in flag bits 2 and 3.
 abbrev pub component_count : ℕ → ℕ

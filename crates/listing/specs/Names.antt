@@ -1,6 +1,5 @@
 -- The names that a listing has for codes and flags (the Rust's `name` functions and `write_flags`), each the name of one of Microsoft's enumerators or masks.
-use Rattle.std.specs.Prelude.{List, [], ◌∷◌, ℕ}
-use Rattle.std.proofs.Math.Option.{Option, none, some}
+use Rattle.std.specs.Prelude.{List, [], ◌∷◌, ℕ, Option, None, Some}
 use Rattle.codes.specs.Table.{lookup}
 use Rattle.codes.specs.Microsoft.{D3D_SHADER_INPUT_TYPE, D3D_SIT_CBUFFER, D3D_SIT_TBUFFER, D3D_SIT_TEXTURE, D3D_SIT_SAMPLER}
 use Rattle.codes.specs.Microsoft.{D3D_SIT_UAV_RWTYPED, D3D_SIT_STRUCTURED, D3D_SIT_UAV_RWSTRUCTURED, D3D_SIT_BYTEADDRESS}
@@ -17,8 +16,8 @@ use Rattle.text_output.specs.Ascii.{ascii}
 
 -- The name of the enumerator that a table's row has; another where there is no row.
 abbrev pub row_name : {A : Type 0} → (A → List ℕ) → List ℕ → Option (A × ℕ) → List ℕ
-row_name name other none = other
-row_name name other (some row) = name row.0
+row_name name other None = other
+row_name name other (Some row) = name row.0
 
 abbrev pub input_type_name : D3D_SHADER_INPUT_TYPE → List ℕ
 input_type_name D3D_SIT_CBUFFER = ascii "cbuffer"

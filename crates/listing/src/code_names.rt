@@ -1,61 +1,95 @@
-// The columns for the input type and the dimension: the names of their codes. Entry n of a table is the name of number n; the last one stands for every
-// number beyond.
-ghost use Rattle.std.specs.Prelude.{◌∷◌, ◌+◌, ◌≤◌};
+// The columns for the input type and the dimension: the names of their codes.
+ghost use Rattle.std.specs.Prelude.{◌≡◌, ◌∷◌, ◌+◌, ◌≤◌, length};
 ghost use Rattle.words.specs.Splice.{Put};
+ghost use Rattle.codes.specs.InputType.{input_type_row};
+ghost use Rattle.codes.specs.Dimension.{dimension_row};
 ghost use Rattle.text_output.specs.Cursor.{farthest};
-ghost use Rattle.listing.specs.Names.{listed_input_type, listed_dimension};
+ghost use Rattle.listing.specs.Names.{input_type_name, listed_input_type, dimension_name, listed_dimension};
 ghost use Rattle.listing.specs.Listing.{pad_to};
 
 use crate::column::put_text;
+use codes::{ResourceDimension, ResourceInputType};
+
+// The name of an input type.
+fn input_type_name(of: ResourceInputType) -> &'static [u8]
+    ensures name { result.now ≡ input_type_name (input_type_row of).0 }
+    ensures short { length result.now ≤ 29 }
+{
+    match of {
+        ResourceInputType::CBuffer => b"cbuffer",
+        ResourceInputType::TBuffer => b"tbuffer",
+        ResourceInputType::Texture => b"texture",
+        ResourceInputType::Sampler => b"sampler",
+        ResourceInputType::UavRwTyped => b"uav_rwtyped",
+        ResourceInputType::Structured => b"structured",
+        ResourceInputType::UavRwStructured => b"uav_rwstructured",
+        ResourceInputType::ByteAddress => b"byteaddress",
+        ResourceInputType::UavRwByteAddress => b"uav_rwbyteaddress",
+        ResourceInputType::UavAppendStructured => b"uav_append_structured",
+        ResourceInputType::UavConsumeStructured => b"uav_consume_structured",
+        ResourceInputType::UavRwStructuredWithCounter => b"uav_rwstructured_with_counter",
+        ResourceInputType::RtAccelerationStructure => b"rt_acceleration_structure",
+        ResourceInputType::UavFeedbackTexture => b"uav_feedback_texture",
+    }
+}
+
+// The name of an input type by its number.
+fn listed_input_type(n: u32) -> &'static [u8]
+    ensures name { result.now ≡ listed_input_type n }
+    ensures short { length result.now ≤ 29 }
+{
+    match ResourceInputType::try_from(n) {
+        Ok(known) => input_type_name(known),
+        Err(_) => b"unknown",
+    }
+}
 
 // Writes a space and the name of an input type by its number.
 pub(crate) fn put_input_type(out: &mut [u8], at: usize, n: u32) -> usize
     requires { at + 64 ≤ farthest }
-    ensures { Put out.old at (32 ∷ pad_to 12 (listed_input_type n)) out.new result }
+    ensures text { Put out.old at (32 ∷ pad_to 12 (listed_input_type n)) out.new result }
+    ensures near { result ≤ at + 42 }
 {
-    let name = text_output::entry(
-        b"\
-            cbuffer\n\
-            tbuffer\n\
-            texture\n\
-            sampler\n\
-            uav_rwtyped\n\
-            structured\n\
-            uav_rwstructured\n\
-            byteaddress\n\
-            uav_rwbyteaddress\n\
-            uav_append_structured\n\
-            uav_consume_structured\n\
-            uav_rwstructured_with_counter\n\
-            rt_acceleration_structure\n\
-            uav_feedback_texture\n\
-            unknown\n",
-        words::least(n as usize, 14),
-    );
-    put_text(out, at, name, 12)
+    put_text(out, at, listed_input_type(n), 12)
+}
+
+// The name of a dimension.
+fn dimension_name(of: ResourceDimension) -> &'static [u8]
+    ensures name { result.now ≡ dimension_name (dimension_row of).0 }
+    ensures short { length result.now ≤ 29 }
+{
+    match of {
+        ResourceDimension::Unknown => b"NA",
+        ResourceDimension::Buffer => b"buf",
+        ResourceDimension::Texture1D => b"1d",
+        ResourceDimension::Texture1DArray => b"1darray",
+        ResourceDimension::Texture2D => b"2d",
+        ResourceDimension::Texture2DArray => b"2darray",
+        ResourceDimension::Texture2DMS => b"2dMS",
+        ResourceDimension::Texture2DMSArray => b"2dMSarray",
+        ResourceDimension::Texture3D => b"3d",
+        ResourceDimension::TextureCube => b"cube",
+        ResourceDimension::TextureCubeArray => b"cubearray",
+        ResourceDimension::BufferEx => b"bufex",
+    }
+}
+
+// The name of a dimension by its number.
+fn listed_dimension(n: u32) -> &'static [u8]
+    ensures name { result.now ≡ listed_dimension n }
+    ensures short { length result.now ≤ 29 }
+{
+    match ResourceDimension::try_from(n) {
+        Ok(known) => dimension_name(known),
+        Err(_) => b"NA",
+    }
 }
 
 // Writes a space and the name of a dimension by its number.
 pub(crate) fn put_dimension(out: &mut [u8], at: usize, n: u32) -> usize
     requires { at + 64 ≤ farthest }
-    ensures { Put out.old at (32 ∷ pad_to 8 (listed_dimension n)) out.new result }
+    ensures text { Put out.old at (32 ∷ pad_to 8 (listed_dimension n)) out.new result }
+    ensures near { result ≤ at + 38 }
 {
-    let name = text_output::entry(
-        b"\
-            NA\n\
-            buf\n\
-            1d\n\
-            1darray\n\
-            2d\n\
-            2darray\n\
-            2dMS\n\
-            2dMSarray\n\
-            3d\n\
-            cube\n\
-            cubearray\n\
-            bufex\n\
-            NA\n",
-        words::least(n as usize, 12),
-    );
-    put_text(out, at, name, 8)
+    put_text(out, at, listed_dimension(n), 8)
 }

@@ -9,22 +9,14 @@ ghost use Rattle.listing.specs.Listing.{scalars, pad_to};
 fn continues(b: u8) -> bool
     ensures { result ≡ (leb 0x80 b && leb b 0xbf) }
 {
-    0x80 <= b && b <= 0xbf
+    (0x80..=0xbf).contains(&b)
 }
 
 // How many Unicode scalar values a text has: as many as bytes that do not continue a sequence.
 fn scalar_count(bytes: &[u8]) -> usize
     ensures { result ≡ scalars bytes.now }
 {
-    let mut n = 0;
-    let mut i = 0;
-    while i < bytes.len() {
-        if !continues(bytes[i]) {
-            n += 1;
-        }
-        i += 1;
-    }
-    n
+    bytes.iter().filter(|b| !continues(**b)).count()
 }
 
 // Writes the spaces that a column lacks which has `used` scalar values.
@@ -32,12 +24,8 @@ fn pad(out: &mut [u8], at: usize, used: usize, width: usize) -> usize
     requires { (at ≤ farthest) × (width ≤ 20) }
     ensures { Put out.old at (replicate (width - used) 32) out.new result }
 {
-    if width <= used {
-        return at;
-    }
     let spaces = [b' '; 20];
-    let n = width - used;
-    text_output::put_bytes(out, at, &spaces[..n])
+    text_output::put_bytes(out, at, &spaces[..width.saturating_sub(used)])
 }
 
 // Writes a text, filled up.
@@ -53,7 +41,8 @@ pub(crate) fn put_padded(out: &mut [u8], at: usize, bytes: &[u8], width: usize) 
 // Writes a space and a text, filled up.
 pub(crate) fn put_text(out: &mut [u8], at: usize, bytes: &[u8], width: usize) -> usize
     requires { (at + 1 + length bytes.now ≤ farthest) × (width ≤ 20) }
-    ensures { Put out.old at (32 ∷ pad_to width bytes.now) out.new result }
+    ensures text { Put out.old at (32 ∷ pad_to width bytes.now) out.new result }
+    ensures near { result ≤ at + 1 + length bytes.now + width }
 {
     let start = text_output::put_byte(out, at, b' ');
     put_padded(out, start, bytes, width)

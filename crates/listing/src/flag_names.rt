@@ -25,6 +25,7 @@ fn put_flag(out: &mut [u8], start: usize, at: usize, set: bool, name: &[u8]) -> 
 }
 
 // Writes the names of the flags that are set, joined by `;`.
+// (A call for each: a loop over pairs of flag and name needs an invariant on the names' lengths, which the calls need not.)
 fn put_set_names(out: &mut [u8], start: usize, flags: BindingFlags) -> usize
     requires { start + 64 ≤ farthest }
     ensures { Put out.old start (set_names flag_names flags.0) out.new result }

@@ -8,8 +8,7 @@ ghost use Rattle.text_output.specs.Cursor.{farthest};
 ghost use Rattle.listing.specs.Listing.{pad_to, columns, listed, component_count};
 
 use flags::BindingFlags;
-use reflection::ResourceBinding;
-use text_output::Written;
+use reflection::{Refusal, ResourceBinding};
 
 mod code_names;
 mod column;
@@ -37,17 +36,17 @@ fn put_line(out: &mut [u8], name: &[u8], b: ResourceBinding) -> usize
 }
 
 // Writes the line of a binding, or refuses where its name is out of place or not UTF-8; any numbers are listed.
-pub fn list_binding<'a>(
-    chunk: &'a [u8],
-    edits: &'a [u8],
+pub fn list_binding(
+    chunk: &[u8],
+    edits: &[u8],
     b: ResourceBinding,
     out: &mut [u8],
-) -> Written
+) -> Result<usize, Refusal>
     ensures { Answers (listed chunk.now edits.now b) out.old out.new result }
 {
     let text = b.name;
     if !text_output::printable(chunk, edits, text) {
-        return text_output::refuse(out, reflection::NOT_READABLE);
+        return text_output::refuse(out, Refusal::NotReadable);
     }
     let end = put_line(out, reflection::name_part(chunk, edits, text), b);
     text_output::finish(out, end)

@@ -1,19 +1,16 @@
 -- What the exported functions hand to C and Rust: an answer as numbers (docs/ROOM.md has the layout).
-use Rattle.std.specs.Prelude.{List, [], ◌∷◌, ℕ, ◌≤◌, length, replicate, get_or}
+use Rattle.reflection.specs.Outcome.{Outcome}
+use Rattle.reflection.specs.Refusals.{refusal_number}
+use Rattle.std.specs.Prelude.{List, [], ◌∷◌, ℕ, ◌≤◌, length, replicate, get_or, Ok, Err}
 use Rattle.words.specs.Splice.{splice}
 use Rattle.reflection.specs.Limits.{chunk_limit}
 use Rattle.reflection.specs.declared.Text.{Text}
 use Rattle.reflection.specs.declared.ResourceDef.{ResourceDef as Header}
-use Rattle.reflection.specs.Outcome.{Outcome, ok, refused}
 use Rattle.reflection.specs.Reflection.{ResourceDef}
 use Rattle.tables.specs.Records.{binding_at, type_at, variable_at}
 use Rattle.tables.specs.Tables.{header_of}
-use Rattle.text_output.specs.declared.Written.{Written}
-use Rattle.text_output.specs.declared.Written.TheVariants.{Wrote, Refused}
-use Rattle.text_output.specs.Written.{fitting}
+use Rattle.text_output.specs.Written.{fitting, Written}
 use Rattle.spelling_parse.specs.declared.TypeSpelling.{TypeSpelling}
-use Rattle.spelling_parse.specs.declared.SpelledType.{SpelledType}
-use Rattle.spelling_parse.specs.declared.SpelledType.TheVariants.{Understood, Refused as NotUnderstood}
 use Rattle.spelling.specs.Spelling.{type_name, declaration}
 use Rattle.spelling_parse.specs.Grammar.{parse_type, spelled_type}
 use Rattle.listing.specs.Listing.{listed}
@@ -21,13 +18,13 @@ use Rattle.refusal_text.specs.Sentences.{sentence}
 
 -- 0 for a value, else the refusal's number.
 unfoldable pub number_of : {A : Type 0} → Outcome A → ℕ
-number_of (ok x) = 0
-number_of (refused e) = e.number
+number_of (Ok x) = 0
+number_of (Err e) = refusal_number e
 
 -- A lent result of n words: the value's words, as far as they fit, and zeros; after a refusal zeros.
 unfoldable pub result_table : {A : Type 0} → (A → List ℕ) → Outcome A → ℕ → List ℕ
-result_table words (ok x) n = splice (replicate n 0) 0 (words x)
-result_table words (refused e) n = replicate n 0
+result_table words (Ok x) n = splice (replicate n 0) 0 (words x)
+result_table words (Err e) n = replicate n 0
 
 -- The header's words, and a lent header of n words.
 unfoldable pub header_words_in_table : Header → List ℕ
@@ -66,19 +63,10 @@ spelling_words s = s.class ∷ s.base ∷ s.rows ∷ s.columns ∷ s.elements �
 abbrev pub spelling_table : Outcome TypeSpelling → ℕ → List ℕ
 spelling_table out n = result_table spelling_words out n
 
--- The answers' enums as outcomes.
-unfoldable pub written_length : Written → Outcome ℕ
-written_length (Wrote n) = ok n
-written_length (Refused e) = refused e
-
-unfoldable pub understood : SpelledType → Outcome TypeSpelling
-understood (Understood s) = ok s
-understood (NotUnderstood e) = refused e
-
 -- A written length is at most 65,536, so it is a word.
 abbrev pub LengthFits : Written → Type 0
-LengthFits (Wrote n) = n ≤ chunk_limit
-LengthFits (Refused e) = Unit
+LengthFits (Ok n) = n ≤ chunk_limit
+LengthFits (Err e) = Unit
 
 -- The spelling of the type that is record 0 of a table, for an output as long as this.
 unfoldable pub type_name_into : List ℕ → List ℕ → List ℕ → List ℕ → Outcome (List ℕ)
@@ -94,8 +82,8 @@ listed_into chunk edits bindings out = fitting (length out) (listed chunk edits 
 
 -- What a text spells.
 unfoldable pub type_read : List ℕ → Outcome TypeSpelling
-type_read text = understood (spelled_type (parse_type text))
+type_read text = spelled_type (parse_type text)
 
 -- The sentence of a refusal's number, for an output as long as this.
 unfoldable pub sentence_into : ℕ → List ℕ → Outcome (List ℕ)
-sentence_into number out = fitting (length out) (ok (sentence number))
+sentence_into number out = fitting (length out) (Ok (sentence number))

@@ -1,8 +1,8 @@
 -- What an exported function leaves of an outcome in what it is lent, each kind one record, which the contracts cite whole: ₀ is what stood there before the
 -- call, ₁ what stands there after it.
+use Rattle.reflection.specs.Outcome.{Outcome}
 use Rattle.std.specs.Prelude.{◌≡◌, List, ℕ, length as size}
 use Rattle.reflection.specs.declared.Text.{Text}
-use Rattle.reflection.specs.Outcome.{Outcome}
 use Rattle.reflection.specs.Reflection.{ResourceDef}
 use Rattle.tables.specs.Tables.{binding_rows, buffer_rows, variable_rows, type_rows, table}
 use Rattle.text_output.specs.Written.{output_of}

@@ -1,11 +1,11 @@
 -- What the exported payload function answers: numbers, for a reflection whose header is given by its words (docs/ROOM.md has the layout).
-use Rattle.std.specs.Prelude.{List, [], ◌∷◌, ℕ, ◌≤◌, length}
+use Rattle.reflection.specs.Outcome.{Outcome}
+use Rattle.std.specs.Prelude.{List, [], ◌∷◌, ℕ, ◌≤◌, length, Ok, Err}
 use Rattle.reflection.specs.Limits.{chunk_limit}
-use Rattle.reflection.specs.Outcome.{Outcome, ok, refused}
 use Rattle.readable.specs.Readable.{table_contents}
 use Rattle.write_spec.specs.Payload.{Part, whole_chunk, written}
 use Rattle.payload.specs.declared.Payload.{Payload}
-use Rattle.payload.specs.declared.Payload.TheVariants.{Chunk, Output, Refused}
+use Rattle.payload.specs.declared.Payload.TheVariants.{Chunk, Output}
 use Rattle.payload.specs.Answer.{room_enough, payload_with}
 use Rattle.nontrefalcu.specs.Exports.{result_table, header_at}
 
@@ -27,13 +27,16 @@ payload_into chunk edits header bindings buffers variables types foundBindings f
     (table_contents chunk edits (header_at header) bindings buffers variables types)
 
 -- Lengths that are words: the chunk's where the payload is the chunk, the written bytes' where it is the output.
-abbrev pub PayloadFits : ℕ → Payload → Type 0
-PayloadFits chunk Chunk = chunk ≤ chunk_limit
-PayloadFits chunk (Output n) = n ≤ chunk_limit
-PayloadFits chunk (Refused e) = Unit
+abbrev pub PayloadFits : ℕ → Outcome Payload → Type 0
+PayloadFits chunk (Ok Chunk) = chunk ≤ chunk_limit
+PayloadFits chunk (Ok (Output n)) = n ≤ chunk_limit
+PayloadFits chunk (Err e) = Unit
 
--- The answer as an outcome.
-unfoldable pub payload_outcome : ℕ → Payload → Outcome (List ℕ)
-payload_outcome chunk Chunk = ok (0 ∷ chunk ∷ [])
-payload_outcome chunk (Output n) = ok (1 ∷ n ∷ [])
-payload_outcome chunk (Refused e) = refused e
+-- The words of the answer.
+abbrev pub payload_pair : ℕ → Payload → List ℕ
+payload_pair chunk Chunk = 0 ∷ chunk ∷ []
+payload_pair chunk (Output n) = 1 ∷ n ∷ []
+
+unfoldable pub payload_outcome : ℕ → Outcome Payload → Outcome (List ℕ)
+payload_outcome chunk (Ok p) = Ok (payload_pair chunk p)
+payload_outcome chunk (Err e) = Err e

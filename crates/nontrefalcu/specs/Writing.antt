@@ -1,6 +1,6 @@
 -- What the exported canonical writer answers, for a reflection whose header is given by its words (docs/ROOM.md has the layout).
-use Rattle.std.specs.Prelude.{List, ℕ, length}
 use Rattle.reflection.specs.Outcome.{Outcome}
+use Rattle.std.specs.Prelude.{List, ℕ, length}
 use Rattle.readable.specs.Readable.{table_contents}
 use Rattle.write_spec.specs.Outcome.{write}
 use Rattle.nontrefalcu.specs.Exports.{header_at}

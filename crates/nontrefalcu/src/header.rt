@@ -11,7 +11,7 @@ fn word_of(words: &[u32], i: usize) -> u32
     if i < words.len() { words[i] } else { 0 }
 }
 
-// The header of these words; those that are missing are 0.
+// The header of these words; those that are missing are 0: C may lend fewer words (docs/ROOM.md).
 pub(crate) fn header_at(words: &[u32]) -> ResourceDef
     ensures { result ≡ header_at words.now }
 {

@@ -4,7 +4,6 @@ ghost use Rattle.read.specs.Parsed.{read_into};
 ghost use Rattle.nontrefalcu.specs.Exports.{header_words_in_table};
 ghost use Rattle.nontrefalcu.specs.Left.{ParseLeft};
 
-use read::Parsed;
 use reflection::ResourceDef;
 
 // The header's words.
@@ -46,10 +45,10 @@ pub fn nontrefalcu_parse_rdef(
     words::clear(header);
     let parsed = read::parse_rdef(chunk, bindings, buffers, variables, types);
     match parsed {
-        Parsed::Refused(refusal) => refusal.number,
-        Parsed::Read(def) => {
+        Err(refusal) => u32::from(refusal),
+        Ok(def) => {
             let words = header_words(def);
-            words::put_words(header, 0, &words);
+            words::overwrite(header, 0, &words);
             0
         }
     }

@@ -4,7 +4,6 @@ ghost use Rattle.nontrefalcu.specs.Exports.{number_of, spelling_table, type_name
 ghost use Rattle.nontrefalcu.specs.Left.{TextLeft};
 
 use crate::answer::hand_length;
-use spelling_parse::SpelledType;
 
 // `spelling::hlsl_type_name` of the type that is record 0 of `type_words`: 0, and the written length in `length`; or the refusal's number, and zeros
 // everywhere.
@@ -51,10 +50,10 @@ pub fn nontrefalcu_parse_type(text: &[u8], numbers: &mut [u32]) -> u32
     words::clear(numbers);
     let spelled = spelling_parse::parse_hlsl_type(text);
     match spelled {
-        SpelledType::Refused(refusal) => refusal.number,
-        SpelledType::Understood(s) => {
+        Err(refusal) => u32::from(refusal),
+        Ok(s) => {
             let five = [s.class, s.base, s.rows, s.columns, s.elements];
-            words::put_words(numbers, 0, &five);
+            words::overwrite(numbers, 0, &five);
             0
         }
     }

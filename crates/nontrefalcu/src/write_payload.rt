@@ -1,29 +1,35 @@
 // The payload.
-ghost use Rattle.std.specs.Prelude.{◌≡◌, length as size, replicate};
+ghost use Rattle.std.specs.Prelude.{◌≡◌, Ok, length as size, replicate};
 ghost use Rattle.nontrefalcu.specs.Exports.{number_of, result_table};
-ghost use Rattle.nontrefalcu.specs.PayloadWords.{PayloadFits, payload_outcome, payload_into};
+ghost use Rattle.nontrefalcu.specs.PayloadWords.{PayloadFits, payload_pair, payload_outcome, payload_into};
 ghost use Rattle.nontrefalcu.specs.Left.{PayloadLeft};
 
 use crate::header::header_at;
 use payload::Payload;
+use reflection::Refusal;
 
-// 0, and in `answer` 0 for the chunk or 1 for the output, and how many bytes; or the refusal's number, and zeros.
-fn hand_payload(payload: Payload, chunk_length: usize, answer: &mut [u32]) -> u32
+// 0 for the chunk or 1 for the output, and how many bytes.
+fn payload_words(payload: Payload, chunk_length: usize) -> [u32; 2]
+    requires { PayloadFits chunk_length (Ok payload) }
+    ensures { result ≡ payload_pair chunk_length payload }
+{
+    match payload {
+        Payload::Chunk => [0, chunk_length as u32],
+        Payload::Output(n) => [1, n as u32],
+    }
+}
+
+// 0, and the payload's two words in `answer`; or the refusal's number, and zeros.
+fn hand_payload(payload: Result<Payload, Refusal>, chunk_length: usize, answer: &mut [u32]) -> u32
     requires { PayloadFits chunk_length payload }
     ensures answer { result ≡ number_of (payload_outcome chunk_length payload) }
     ensures words { answer.new ≡ result_table (λ w. w) (payload_outcome chunk_length payload) (size answer.old) }
 {
     words::clear(answer);
     match payload {
-        Payload::Refused(refusal) => refusal.number,
-        Payload::Chunk => {
-            let two = [0, chunk_length as u32];
-            words::put_words(answer, 0, &two);
-            0
-        }
-        Payload::Output(n) => {
-            let two = [1, n as u32];
-            words::put_words(answer, 0, &two);
+        Err(refusal) => u32::from(refusal),
+        Ok(handed) => {
+            words::overwrite(answer, 0, &payload_words(handed, chunk_length));
             0
         }
     }

@@ -1,4 +1,5 @@
 // What C and Rust link: each function of the library `nontrefalcu` under its own name, with the same contract (include/nontrefalcu.h).
+// They stand in a crate of their own: a crate is a library or a static library (docs/PORT.md).
 #![tactic(auto)]
 
 ghost use Rattle.std.specs.Prelude.{◌≡◌, length as size, replicate};

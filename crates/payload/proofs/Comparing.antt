@@ -1,18 +1,19 @@
 -- What `unedited` compares: the reflection that the given tables hold, which is readable, with the one that the chunk was read as. Both are what decoding their
 -- tables gives, so they are what the tables hold record by record, within the room; and the chunk was read with the whole room.
+use Rattle.reflection.specs.Outcome.{Outcome}
+use Rattle.std.proofs.lemmas.Option.{same_Some}
+use Rattle.reflection.specs.declared.refusal.Refusal.{Refusal}
+use Rattle.std.specs.Prelude.{Ok, Err}
 use mathlib.Core.Path.{◌≡◌, sym, ap, ◌∙◌}
 use mathlib.Core.Bool.{false}
 use mathlib.Core.List.{List, []}
-use mathlib.Core.Option.{some-injective}
 use Prim.Native.Nat.{ℕ, ◌/◌, ◌≤◌, ◌<◌, min}
 use native.Mathlib.Omega.{arith}
 use lib.ListN.{length, get_or}
 use Rattle.text.specs.Same.{same_bytes}
 use Rattle.reflection.specs.Limits.{binding_table, buffer_table, variable_table, type_table, binding_room, buffer_room, variable_room, type_room}
 use Rattle.reflection.specs.declared.Text.{Text}
-use Rattle.reflection.specs.declared.Refusal.{Refusal}
 use Rattle.reflection.specs.declared.ResourceDef.{ResourceDef as Header}
-use Rattle.reflection.specs.Outcome.{Outcome, ok, refused}
 use Rattle.reflection.specs.Reflection.{ResourceDef}
 use Rattle.tables.specs.Records.{binding_width, buffer_width, variable_width, type_width}
 use Rattle.reflection.specs.Contents.{Bytes, contents}
@@ -61,7 +62,7 @@ module _ (chunk : Bytes) (bytes : (i : ℕ) → get_or chunk i 0 < 256) (b f v t
       ∙ read_readable chunk [] bytes (room_of (length b) (length f) (length v) (length t)) lent found.def found.is (omega arith) nb nf nv nt)
 
   found_def : found_readable.def ≡ found.def
-  found_def = some-injective found_readable.def found.def (sym found_readable.decoded ∙ reading-back.decoded chunk b f v t found)
+  found_def = same_Some found_readable.def found.def (sym found_readable.decoded ∙ reading-back.decoded chunk b f v t found)
 
   pub found_held : found.def ≡ reflection_in_tables h bindings buffers variables types
   found_held = sym found_def ∙ as_held chunk [] h bindings buffers variables types found_readable
@@ -76,9 +77,9 @@ module _ (chunk edits : Bytes) (h : Header) (bindings buffers variables types : 
       ap (unedited_held chunk) holds.is_held
       ∙ ap (λ (o : Outcome (ResourceDef Text Text)). read_as chunk o (contents chunk edits holds.def)) (ap (λ (r : Room). read r chunk) (sym whole) ∙ e)
 
-  pub unread_edited : (e : Refusal) → read_into chunk b f v t ≡ refused e
+  pub unread_edited : (e : Refusal) → read_into chunk b f v t ≡ Err e
       → false ≡ unedited_held chunk (table_contents chunk edits h bindings buffers variables types)
-  unread_edited e is = sym (in_full_room (refused e) is)
+  unread_edited e is = sym (in_full_room (Err e) is)
 
   pub read_compared : (bytes : (i : ℕ) → get_or chunk i 0 < 256) {nb nf nv nt : ℕ} {x : Header} {fb ff fv ft : List ℕ}
       (found : Held (read_into chunk b f v t) nb nf nv nt x fb ff fv ft)
@@ -92,4 +93,4 @@ module _ (chunk edits : Bytes) (h : Header) (bindings buffers variables types : 
       (λ i. same_def (same_name chunk edits) (same_name chunk edits) (other i) (own i))
       ∙ sym (same_contents chunk edits found.def holds.def)
       ∙ (λ i. same_def same_bytes same_bytes (same i) (contents chunk edits holds.def))
-      ∙ sym (in_full_room (ok found.def) found.is)
+      ∙ sym (in_full_room (Ok found.def) found.is)

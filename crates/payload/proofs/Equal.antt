@@ -12,7 +12,8 @@ use Rattle.text.proofs.SameBytes.{same_bytes_equal, same_bytes_refl}
 use Rattle.reflection.specs.Reflection.{TypeDesc, type_desc, Members, no_member, member, Rd11}
 use Rattle.reflection.specs.Reflection.{no_rd11, rd11, ResourceBinding, CBufferVariable, CBufferDef, ResourceDef}
 use Rattle.reflection.specs.Contents.{Bytes}
-use Rattle.reflection.proofs.Equalities.{numbers_of_binding, equal_bindings, numbers_of_variable, equal_variables, numbers_of_buffer, equal_buffers, equal_defs}
+use Rattle.reflection.proofs.Equalities.{numbers_of_binding, equal_bindings, numbers_of_variable, equal_variables, numbers_of_buffer, equal_buffers}
+use Rattle.reflection.proofs.Equalities.{equal_defs}
 use Rattle.write_spec.specs.Same.{numbers_of, same_type, same_members, same_list, same_binding, same_variable, same_buffer, same_def, rd11_numbers}
 use Rattle.theorem_round_trip.proofs.Types.{same_type_equal}
 

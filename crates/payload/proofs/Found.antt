@@ -1,15 +1,16 @@
 -- What reading finds has every text in the chunk, so its contents are the same whatever the text of edits is; and it keeps the room. By the steps of reading:
 -- each name and default is a place and a length in the chunk.
+use Rattle.reflection.specs.Outcome.{Outcome}
+use Rattle.reflection.specs.declared.refusal.Refusal.{Refusal}
+use Rattle.text.specs.declared.Span.{Span}
+use Rattle.std.specs.Prelude.{Option, None, Ok, Err, Some}
 use mathlib.Core.Path.{◌≡◌, refl, subst}
 use mathlib.Core.Bool.{Bool}
 use mathlib.Core.List.{List, [], ◌∷◌, map}
 use Prim.Native.Nat.{ℕ, zero, suc, ◌+◌}
 use native.Mathlib.Omega.{arith}
 use Rattle.words.specs.Words.{word_at}
-use Rattle.text.specs.declared.Found.{Found}
-use Rattle.text.specs.declared.Found.TheVariants.{At, Bad}
 use Rattle.reflection.specs.declared.Text.{Text}
-use Rattle.reflection.specs.Outcome.{Outcome, ok, refused}
 use Rattle.reflection.specs.Reflection.{TypeDesc, type_desc, Members, member, Rd11, ResourceBinding, CBufferVariable, CBufferDef, ResourceDef}
 use Rattle.reflection.specs.Reflection.{map_type, map_members, map_binding, map_variable, map_buffer, map_def}
 use Rattle.reflection.proofs.Equalities.{equal_bindings, equal_variables, equal_buffers, equal_defs}
@@ -29,10 +30,10 @@ module _ (s edits : Bytes) where
   g = text_bytes s edits
 
   -- A text that reading finds.
-  text_same : (n : ℕ) (x : Found) (r : Room) → Gives (λ t. f t ≡ g t) (text_or n x r)
+  text_same : (n : Refusal) (x : Option Span) (r : Room) → Gives (λ t. f t ≡ g t) (text_or n x r)
   unfolding text_or return refuse text_bytes
-  text_same n (At place k) r = refl
-  text_same n Bad r = tt
+  text_same n (Some w) r = refl
+  text_same n None r = tt
 
   members_same : (read_type : ℕ → ReadStep (TypeDesc Text)) → ((at : ℕ) (r : Room) → Gives (λ t. map_type f t ≡ map_type g t) (read_type at r))
       → (n at : ℕ) (r : Room) → Gives (λ ms. map_members f ms ≡ map_members g ms) (read_members read_type s n at r)
@@ -102,10 +103,10 @@ module _ (s edits : Bytes) where
       any_gives P _ _ (λ _. any_gives P _ _ (λ _. any_gives P _ _ (λ _. then_gives (λ t. f t ≡ g t) P _ _ (text_same _ _) (λ creator c.
       any_gives P _ _ (λ words. tables_same creator c words))))) r
 
-value_of : {A : Type 0} (P : A → Type 0) (x : Outcome (A × Room)) (a : A) → Gives P x → without_room x ≡ ok a → P a
-value_of P (ok z) a p e = let same : z.0 ≡ a = cc in subst P same p
-value_of P (refused d) a p e = absurd (let apart : ◌≡◌ {A = ℕ} 0 1 = cc in omega arith)
+value_of : {A : Type 0} (P : A → Type 0) (x : Outcome (A × Room)) (a : A) → Gives P x → without_room x ≡ Ok a → P a
+value_of P (Ok z) a p e = let same : z.0 ≡ a = cc in subst P same p
+value_of P (Err d) a p e = absurd (let apart : ◌≡◌ {A = ℕ} 0 1 = cc in omega arith)
 
-pub found_contents : (room : Room) (s edits : Bytes) (d : ResourceDef Text Text) → read room s ≡ ok d → contents s [] d ≡ contents s edits d
+pub found_contents : (room : Room) (s edits : Bytes) (d : ResourceDef Text Text) → read room s ≡ Ok d → contents s [] d ≡ contents s edits d
 unfolding read
 found_contents room s edits d e = value_of (λ q. contents s [] q ≡ contents s edits q) (read_chunk s room) d (chunk_same s edits room) e

@@ -1,17 +1,19 @@
 -- What reads in some room reads as the same in more room: each step takes no more than there was, and asks of the room only whether one more record is left.
+use Rattle.reflection.specs.Outcome.{Outcome}
+use Rattle.reflection.specs.declared.refusal.Refusal.{Refusal}
+use Rattle.text.specs.declared.Span.{Span}
+use Rattle.std.specs.Prelude.{Option, None, Ok, Err, Some}
 use mathlib.Core.Path.{◌≡◌, refl, ap, subst, ◌∙◌}
 use mathlib.Core.Bool.{Bool, true, false}
 use mathlib.Core.List.{List, [], ◌∷◌}
 use Prim.Native.Nat.{ℕ, zero, suc, ◌+◌, ◌≤◌}
 use native.Mathlib.Omega.{arith}
-use Rattle.text.specs.declared.Found.{Found}
-use Rattle.text.specs.declared.Found.TheVariants.{At, Bad}
 use Rattle.reflection.specs.Strides.{member_stride}
 use Rattle.reflection.specs.declared.Text.{Text}
-use Rattle.reflection.specs.Outcome.{Outcome, ok, refused}
 use Rattle.reflection.specs.Reflection.{TypeDesc, Rd11, ResourceDef}
 use Rattle.tables.specs.Nodes.{type_levels}
-use Rattle.read_spec.specs.Step.{Room, ReadStep, and_then, ◌>>=◌, return, refuse, check, text_or, one_less, take_binding, take_buffer, take_variable, take_type}
+use Rattle.read_spec.specs.Step.{Room, ReadStep, and_then, ◌>>=◌, return, refuse, check, text_or, one_less, take_binding, take_buffer, take_variable}
+use Rattle.read_spec.specs.Step.{take_type}
 use Rattle.read_spec.specs.Read.{read_many, read_members, read_type, read_variable, variable_stride}
 use Rattle.read_spec.specs.Read.{read_binding, read_buffer, read_rd11, read_tables, read_chunk, without_room, read}
 
@@ -25,11 +27,11 @@ pub record AtMost (r w : Room) : Type 0 where
 -- A step gives the same in other room, and leaves no less of it.
 record Gave {A : Type 0} (x : Outcome (A × Room)) (a : A) (q : Room) : Type 0 where
   left : Room
-  is : x ≡ ok (a, left)
+  is : x ≡ Ok (a, left)
   more : AtMost q left
 
 record Widens {A : Type 0} (m : ReadStep A) : Type 0 where
-  wide : (r w : Room) → AtMost r w → (a : A) (q : Room) → m r ≡ ok (a, q) → Gave (m w) a q
+  wide : (r w : Room) → AtMost r w → (a : A) (q : Room) → m r ≡ Ok (a, q) → Gave (m w) a q
 
 return_widens : {A : Type 0} (a : A) → Widens (return a)
 unfolding return
@@ -37,24 +39,24 @@ return_widens {A} a =
     record {
       wide = λ r w h b q e.
           (let both : ◌≡◌ {A = A × Room} (a, r) (b, q) = cc in
-          record { left = w; is = ap (λ (x : A × Room). ok (x.0, w)) both; more = subst (λ (x : A × Room). AtMost x.1 w) both h });
+          record { left = w; is = ap (λ (x : A × Room). Ok (x.0, w)) both; more = subst (λ (x : A × Room). AtMost x.1 w) both h });
     }
 
-refuse_widens : {A : Type 0} (n : ℕ) → Widens {A = A} (refuse n)
+refuse_widens : {A : Type 0} (n : Refusal) → Widens {A = A} (refuse n)
 unfolding refuse
 refuse_widens n = record { wide = λ r w h b q e. absurd (let apart : ◌≡◌ {A = ℕ} 0 1 = cc in omega arith) }
 
-check_widens : (test : Bool) (n : ℕ) → Widens (check test n)
+check_widens : (test : Bool) (n : Refusal) → Widens (check test n)
 unfolding check
 check_widens true n = return_widens tt
 check_widens false n = refuse_widens n
 
-text_widens : (n : ℕ) (x : Found) → Widens (text_or n x)
+text_widens : (n : Refusal) (x : Option Span) → Widens (text_or n x)
 unfolding text_or
-text_widens n (At place k) = return_widens _
-text_widens n Bad = refuse_widens n
+text_widens n (Some w) = return_widens _
+text_widens n None = refuse_widens n
 
-less_widens : (n m : ℕ) (f g : ℕ → Room) → n ≤ m → ((k l : ℕ) → k ≤ l → AtMost (f k) (g l)) → (u : Unit {0}) (q : Room) → one_less n f ≡ ok (u, q)
+less_widens : (n m : ℕ) (f g : ℕ → Room) → n ≤ m → ((k l : ℕ) → k ≤ l → AtMost (f k) (g l)) → (u : Unit {0}) (q : Room) → one_less n f ≡ Ok (u, q)
     → Gave (one_less m g) u q
 less_widens zero m f g h each u q e = absurd (let apart : ◌≡◌ {A = ℕ} 0 1 = cc in omega arith)
 less_widens (suc n) zero f g h each u q e = absurd (omega arith)
@@ -98,12 +100,12 @@ then_widens : {A B : Type 0} (m : ReadStep A) (f : A → ReadStep B) → Widens 
 unfolding ◌>>=◌
 then_widens {A} {B} m f first next = record { wide = λ r w h b q e. go r w h b q (m r) refl e }
   where
-    go : (r w : Room) → AtMost r w → (b : B) (q : Room) (o : Outcome (A × Room)) → m r ≡ o → and_then o f ≡ ok (b, q) → Gave (and_then (m w) f) b q
-    go r w h b q (ok p) is e =
+    go : (r w : Room) → AtMost r w → (b : B) (q : Room) (o : Outcome (A × Room)) → m r ≡ o → and_then o f ≡ Ok (b, q) → Gave (and_then (m w) f) b q
+    go r w h b q (Ok p) is e =
         let one = first.wide r w h p.0 p.1 is in
         let two = (next p.0).wide p.1 one.left one.more b q e in
         record { left = two.left; is = ap (λ (o : Outcome (A × Room)). and_then o f) one.is ∙ two.is; more = two.more }
-    go r w h b q (refused d) is e = absurd (let apart : ◌≡◌ {A = ℕ} 0 1 = cc in omega arith)
+    go r w h b q (Err d) is e = absurd (let apart : ◌≡◌ {A = ℕ} 0 1 = cc in omega arith)
 
 many_widens : {A : Type 0} (one : ℕ → ReadStep A) → ((at : ℕ) → Widens (one at)) → (stride n at : ℕ) → Widens (read_many one stride n at)
 unfolding read_many
@@ -164,12 +166,12 @@ module _ (s : List ℕ) where
       then_widens _ _ (text_widens _ _) (λ creator.
       then_widens _ _ (rd11_widens _) (λ words. tables_widen creator words)))))
 
-  pub read_wider : (r w : Room) → AtMost r w → (d : ResourceDef Text Text) → read r s ≡ ok d → read w s ≡ ok d
+  pub read_wider : (r w : Room) → AtMost r w → (d : ResourceDef Text Text) → read r s ≡ Ok d → read w s ≡ Ok d
   unfolding read
   read_wider r w h d e = go (read_chunk s r) refl e
     where
-      go : (o : Outcome (ResourceDef Text Text × Room)) → read_chunk s r ≡ o → without_room o ≡ ok d → without_room (read_chunk s w) ≡ ok d
-      go (ok p) is same =
+      go : (o : Outcome (ResourceDef Text Text × Room)) → read_chunk s r ≡ o → without_room o ≡ Ok d → without_room (read_chunk s w) ≡ Ok d
+      go (Ok p) is same =
           let gave = chunk_widens.wide r w h p.0 p.1 is in
           ap without_room gave.is ∙ same
-      go (refused x) is same = absurd (let apart : ◌≡◌ {A = ℕ} 0 1 = cc in omega arith)
+      go (Err x) is same = absurd (let apart : ◌≡◌ {A = ℕ} 0 1 = cc in omega arith)

@@ -1,24 +1,20 @@
 -- What `write_payload` answers and leaves in the output, and what part of the two buffers is handed back, by the definition of the payload.
-use Rattle.std.specs.Prelude.{◌≡◌, Bool, false, cond, ◌&&◌, List, [], ℕ, leb, length, replicate}
-use Rattle.std.proofs.Math.Option.{Option, none, some}
+use Rattle.reflection.specs.Outcome.{Outcome}
+use Rattle.reflection.specs.declared.refusal.Refusal.TheVariants.{NoRoom}
+use Rattle.text_output.specs.Written.{Written}
+use Rattle.std.specs.Prelude.{◌≡◌, Bool, false, cond, ◌&&◌, List, [], ℕ, leb, length, replicate, Option, None, Some, Ok, Err}
 use Rattle.words.specs.Parts.{inside, part}
 use Rattle.words.specs.Splice.{splice}
 use Rattle.reflection.specs.Limits.{binding_table, buffer_table, variable_table, type_table}
-use Rattle.reflection.specs.Refusals.{no_room}
-use Rattle.reflection.specs.declared.NamePlace.{NamePlace}
-use Rattle.reflection.specs.declared.NamePlace.TheVariants.{InPlace, Refused as Missing}
 use Rattle.reflection.specs.declared.ResourceDef.{ResourceDef as Header}
-use Rattle.reflection.specs.Outcome.{Outcome, ok, refused, because}
 use Rattle.reflection.specs.Reflection.{ResourceDef}
 use Rattle.reflection.specs.Texts.{name_place}
 use Rattle.reflection.specs.Contents.{Bytes}
 use Rattle.readable.specs.Readable.{table_contents}
-use Rattle.text_output.specs.declared.Written.{Written}
-use Rattle.text_output.specs.declared.Written.TheVariants.{Wrote, Refused as NotWritten}
 use Rattle.write_spec.specs.Outcome.{scratch_size}
 use Rattle.write_spec.specs.Payload.{Part, whole_chunk, written, unedited, payload}
 use Rattle.payload.specs.declared.Payload.{Payload}
-use Rattle.payload.specs.declared.Payload.TheVariants.{Chunk, Output, Refused}
+use Rattle.payload.specs.declared.Payload.TheVariants.{Chunk, Output}
 
 -- Whether tables of so many words hold document 01's whole room, and the scratch what the writer needs.
 unfoldable pub room_enough : ℕ → ℕ → ℕ → ℕ → ℕ → Bool
@@ -27,7 +23,7 @@ room_enough bindings buffers variables types scratch =
 
 -- The payload behind the test of the room: 15 comes first.
 unfoldable pub payload_with : Bool → ℕ → Bytes → Option (ResourceDef Bytes Bytes) → Outcome Part
-payload_with enough room chunk r = cond enough (payload room chunk r) (refused (because no_room))
+payload_with enough room chunk r = cond enough (payload room chunk r) (Err NoRoom)
 
 -- The payload of the reflection that a header and four tables hold, with these tables, this scratch and this output lent: of them only the lengths count.
 abbrev pub payload_into : List ℕ → List ℕ → List ℕ → List ℕ → List ℕ → Bytes → Bytes → Bytes → Header → List ℕ → List ℕ → List ℕ → List ℕ → Outcome Part
@@ -35,41 +31,41 @@ payload_into foundBindings foundBuffers foundVariables foundTypes scratch out ch
     payload_with (room_enough (length foundBindings) (length foundBuffers) (length foundVariables) (length foundTypes) (length scratch)) (length out) chunk
     (table_contents chunk edits h bindings buffers variables types)
 
--- The answer's three cases.
-unfoldable pub payload_answer : Outcome Part → Payload
-payload_answer (ok whole_chunk) = Chunk
-payload_answer (ok (written bytes)) = Output (length bytes)
-payload_answer (refused e) = Refused e
+-- The answer: the chunk, or so many bytes of the output; or the refusal.
+unfoldable pub payload_answer : Outcome Part → Outcome Payload
+payload_answer (Ok whole_chunk) = Ok Chunk
+payload_answer (Ok (written bytes)) = Ok (Output (length bytes))
+payload_answer (Err e) = Err e
 
 -- What the output then holds: as it was, the bytes at its start, or zeros.
 unfoldable pub payload_output : Outcome Part → Bytes → Bytes
-payload_output (ok whole_chunk) out = out
-payload_output (ok (written bytes)) out = splice out 0 bytes
-payload_output (refused e) out = replicate (length out) 0
+payload_output (Ok whole_chunk) out = out
+payload_output (Ok (written bytes)) out = splice out 0 bytes
+payload_output (Err e) out = replicate (length out) 0
 
 -- What `write_payload` leaves of an outcome: its answer, and what the output, which held `before`, holds after it.
-pub record PayloadWritten (outcome : Outcome Part) (before after : Bytes) (r : Payload) : Type 0 where
+pub record PayloadWritten (outcome : Outcome Part) (before after : Bytes) (r : Outcome Payload) : Type 0 where
   pub answer : r ≡ payload_answer outcome
   pub out : after ≡ payload_output outcome before
 
 -- Whether the chunk reads as what the tables hold, where they hold something.
 unfoldable pub unedited_held : Bytes → Option (ResourceDef Bytes Bytes) → Bool
-unedited_held chunk none = false
-unedited_held chunk (some r) = unedited chunk r
+unedited_held chunk None = false
+unedited_held chunk (Some r) = unedited chunk r
 
 -- The answer of a payload that was written, or that writing refused.
-unfoldable pub written_answer : Written → Payload
-written_answer (Wrote n) = Output n
-written_answer (NotWritten e) = Refused e
+unfoldable pub written_answer : Written → Outcome Payload
+written_answer (Ok n) = Ok (Output n)
+written_answer (Err e) = Err e
 
 -- The bytes that are handed back: the chunk, the first n bytes of the output where it has so many, or none.
-unfoldable pub payload_part : Bytes → Bytes → Payload → Bytes
-payload_part chunk out Chunk = chunk
-payload_part chunk out (Output n) = part out 0 n
-payload_part chunk out (Refused e) = []
+unfoldable pub payload_part : Bytes → Bytes → Outcome Payload → Bytes
+payload_part chunk out (Ok Chunk) = chunk
+payload_part chunk out (Ok (Output n)) = part out 0 n
+payload_part chunk out (Err e) = []
 
 -- Whether they are the payload: else its own refusal, or 16 where the output does not have so many bytes.
-unfoldable pub payload_place : ℕ → Payload → NamePlace
-payload_place room Chunk = InPlace
-payload_place room (Output n) = name_place (inside room 0 n)
-payload_place room (Refused e) = Missing e
+unfoldable pub payload_place : ℕ → Outcome Payload → Outcome (Unit {0})
+payload_place room (Ok Chunk) = Ok tt
+payload_place room (Ok (Output n)) = name_place (inside room 0 n)
+payload_place room (Err e) = Err e

@@ -1,59 +1,44 @@
 // The payload of a reflection: the chunk itself where nothing was edited, else its canonical form (document 01, "What a reflection holds").
 #![tactic(auto)]
 
-ghost use Rattle.std.specs.Prelude.{◌≡◌, true, ◌≤◌, length, replicate};
+ghost use Rattle.std.specs.Prelude.{◌≡◌, true, ◌≤◌, Err, length, replicate};
 ghost use Rattle.reflection.specs.Limits.{binding_table, buffer_table, variable_table, type_table};
-ghost use Rattle.reflection.specs.Outcome.{refused, because};
 ghost use Rattle.readable.specs.Readable.{table_contents, readable};
 ghost use Rattle.payload.specs.Answer.{room_enough, unedited_held, written_answer, payload_into, PayloadWritten, payload_part, payload_place};
 
-use read::Parsed;
-use reflection::{NamePlace, Refusal, ResourceDef};
-use text_output::Written;
+use reflection::{Refusal, ResourceDef};
 
-// What is handed back: the chunk, so many bytes of the output, or nothing, and why.
-#[derive(Clone, Copy)]
+// What is handed back: the chunk, or so many bytes of the output.
+#[derive(Clone, Copy, Debug, PartialEq, Eq)]
 pub enum Payload {
     Chunk,
     Output(usize),
-    Refused(Refusal),
 }
 
 // Whether the four tables and the scratch have the words that the payload needs.
+#[tactic(auto, unfolding(crate::specs::Answer::room_enough))]
 fn enough(bindings: usize, buffers: usize, variables: usize, types: usize, scratch: usize) -> bool
     ensures { result ≡ room_enough bindings buffers variables types scratch }
 {
-    if bindings < reflection::BINDING_TABLE {
-        return false;
-    }
-    if buffers < reflection::BUFFER_TABLE {
-        return false;
-    }
-    if variables < reflection::VARIABLE_TABLE {
-        return false;
-    }
-    if types < reflection::TYPE_TABLE {
-        return false;
-    }
-    write_spec::SCRATCH_WORDS <= scratch
+    reflection::BINDING_TABLE <= bindings
+        && (reflection::BUFFER_TABLE <= buffers
+            && (reflection::VARIABLE_TABLE <= variables
+                && (reflection::TYPE_TABLE <= types && write_spec::SCRATCH_WORDS <= scratch)))
 }
 
 // A refusal: the output is zeroed.
-fn refuse(out: &mut [u8], number: u32) -> Payload
-    ensures { PayloadWritten (refused (because number)) out.old out.new result }
+fn refuse(out: &mut [u8], refusal: Refusal) -> Result<Payload, Refusal>
+    ensures { PayloadWritten (Err refusal) out.old out.new result }
 {
-    text_output::refuse(out, number);
-    Payload::Refused(Refusal { number: number })
+    written_payload(text_output::refuse(out, refusal))
 }
 
 // The payload that was written to the output, or that writing refused.
-fn written_payload(written: Written) -> Payload
+#[tactic(auto, unfolding(crate::specs::Answer::written_answer))]
+fn written_payload(written: Result<usize, Refusal>) -> Result<Payload, Refusal>
     ensures { result ≡ written_answer written }
 {
-    match written {
-        Written::Wrote(n) => Payload::Output(n),
-        Written::Refused(refusal) => Payload::Refused(refusal),
-    }
+    written.map(Payload::Output)
 }
 
 // Whether the chunk reads as the reflection. It is read into the four lent tables.
@@ -88,8 +73,8 @@ fn unedited<'a>(
         found_types,
     );
     match parsed {
-        Parsed::Refused(_) => false,
-        Parsed::Read(found) => compare::same_reflection(
+        Err(_) => false,
+        Ok(found) => compare::same_reflection(
             chunk,
             edits,
             found,
@@ -121,7 +106,7 @@ fn find_payload<'a>(
     found_types: &mut [u32],
     scratch: &mut [u32],
     out: &mut [u8],
-) -> Payload
+) -> Result<Payload, Refusal>
     ensures payload { PayloadWritten
         (payload_into found_bindings.old found_buffers.old found_variables.old found_types.old
         scratch.old out.old chunk.now edits.now def
@@ -140,10 +125,10 @@ fn find_payload<'a>(
         found_types.len(),
         scratch.len(),
     ) {
-        return refuse(out, reflection::NO_ROOM);
+        return refuse(out, Refusal::NoRoom);
     }
     if !readable::readable(chunk, edits, def, bindings, buffers, variables, types) {
-        return refuse(out, reflection::NOT_READABLE);
+        return refuse(out, Refusal::NotReadable);
     }
     if unedited(
         chunk,
@@ -158,7 +143,7 @@ fn find_payload<'a>(
         found_variables,
         found_types,
     ) {
-        return Payload::Chunk;
+        return Ok(Payload::Chunk);
     }
     let written = write::write_rdef_canonical(
         chunk, edits, def, bindings, buffers, variables, types, scratch, out,
@@ -184,7 +169,7 @@ pub fn write_payload<'a>(
     found_types: &mut [u32],
     scratch: &mut [u32],
     out: &mut [u8],
-) -> Payload
+) -> Result<Payload, Refusal>
     ensures payload { PayloadWritten
         (payload_into found_bindings.old found_buffers.old found_variables.old found_types.old
         scratch.old out.old chunk.now edits.now def
@@ -220,31 +205,35 @@ pub fn write_payload<'a>(
 }
 
 // The payload's bytes, as a part of the chunk or of the output and no copy; the empty part after a refusal, or where the output does not have so many bytes.
-pub fn payload_part<'a>(chunk: &'a [u8], out: &'a [u8], payload: Payload) -> &'a [u8]
+#[tactic(auto, unfolding(crate::specs::Answer::payload_part))]
+pub fn payload_part<'a>(
+    chunk: &'a [u8],
+    out: &'a [u8],
+    payload: Result<Payload, Refusal>,
+) -> &'a [u8]
     ensures { result.now ≡ payload_part chunk.now out.now payload }
 {
     match payload {
-        Payload::Chunk => chunk,
-        Payload::Output(n) => words::part(out, 0, n),
-        Payload::Refused(_) => &chunk[0..0],
+        Ok(Payload::Chunk) => chunk,
+        Ok(Payload::Output(n)) => words::part(out, 0, n),
+        Err(_) => &chunk[0..0],
     }
 }
 
 // What stands beside `payload_part`: whether the part that it hands back is the payload; else the payload's own refusal, or 16.
-pub fn payload_refusal(out: &[u8], payload: Payload) -> NamePlace
+// Two calls, as docs/FORMAT.md has them: `payload_part` cannot fail.
+#[tactic(auto, unfolding(crate::specs::Answer::payload_place, words::specs::Parts::inside))]
+pub fn payload_refusal(out: &[u8], payload: Result<Payload, Refusal>) -> Result<(), Refusal>
     ensures { result ≡ payload_place (length out.now) payload }
 {
-    match payload {
-        Payload::Chunk => NamePlace::InPlace,
+    match payload? {
+        Payload::Chunk => Ok(()),
         Payload::Output(n) => {
             if n <= out.len() {
-                NamePlace::InPlace
+                Ok(())
             } else {
-                NamePlace::Refused(Refusal {
-                    number: reflection::NOT_READABLE,
-                })
+                Err(Refusal::NotReadable)
             }
         }
-        Payload::Refused(refusal) => NamePlace::Refused(refusal),
     }
 }

@@ -1,9 +1,10 @@
 -- Decoding what `parse_rdef` left gives exactly what was read. Decoding undoes encoding where every type has at most 65 levels, which reading sees to, level
 -- by level, and where there are RD11 words exactly for major 5, by which reading goes.
+use Rattle.reflection.specs.Outcome.{Outcome}
+use Rattle.std.specs.Prelude.{Ok, Err, Some}
 use mathlib.Core.Path.{◌≡◌, refl, sym, subst, ◌∙◌}
 use mathlib.Core.Bool.{Bool, true, false}
 use mathlib.Core.List.{List, [], ◌∷◌, ◌++◌}
-use mathlib.Core.Option.{some}
 use Prim.Native.Nat.{ℕ, zero, suc, ◌+◌}
 use native.Mathlib.Omega.{arith}
 use lib.Dec.{eqb}
@@ -11,7 +12,6 @@ use Rattle.words.specs.Words.{word_at}
 use Rattle.reflection.specs.Strides.{buffer_stride}
 use Rattle.reflection.specs.declared.Text.{Text}
 use Rattle.reflection.specs.declared.ResourceDef.{ResourceDef as Header}
-use Rattle.reflection.specs.Outcome.{Outcome, ok, refused}
 use Rattle.reflection.specs.Reflection.{TypeDesc, Rd11, CBufferVariable, ResourceDef, major_of}
 use Rattle.tables.specs.Nodes.{type_levels}
 use Rattle.tables.proofs.Levels.{Fits, FitsAll}
@@ -22,7 +22,8 @@ use Rattle.reflection.specs.Rd11.{rd11_from_header}
 use Rattle.tables.proofs.Levels.{TypesFit}
 use Rattle.tables.proofs.Decode.{rd11_of, rd11_of_header, decode_encoded}
 use Rattle.read_spec.specs.Step.{Room, ReadStep, return, refuse}
-use Rattle.read_spec.specs.Read.{read_many, read_members, read_type, read_variable, variable_from_chunk, variable_stride, read_buffer, buffer_from_chunk}
+use Rattle.read_spec.specs.Read.{read_many, read_members, read_type, read_variable, variable_from_chunk, variable_stride, read_buffer}
+use Rattle.read_spec.specs.Read.{buffer_from_chunk}
 use Rattle.read_spec.specs.Read.{read_rd11, read_tables, read_chunk, without_room, read}
 use Rattle.read_spec.proofs.Steps.{Gives, then_gives, any_gives}
 use Rattle.read.specs.Parsed.{read_into}
@@ -114,17 +115,17 @@ chunk_decodable s r =
     any_gives Decodable _ _ (λ _. any_gives Decodable _ _ (λ _. any_gives Decodable _ _ (λ _. any_gives Decodable _ _ (λ creator.
     then_gives (OfMajor s) Decodable _ _ (rd11_of_major s) (λ words h. tables_decodable s creator words h))))) r
 
-value_of : {A : Type 0} (P : A → Type 0) (x : Outcome (A × Room)) (a : A) → Gives P x → without_room x ≡ ok a → P a
-value_of P (ok z) a p e = let same : z.0 ≡ a = cc in subst P same p
-value_of P (refused d) a p e = absurd (let apart : ◌≡◌ {A = ℕ} 0 1 = cc in omega arith)
+value_of : {A : Type 0} (P : A → Type 0) (x : Outcome (A × Room)) (a : A) → Gives P x → without_room x ≡ Ok a → P a
+value_of P (Ok z) a p e = let same : z.0 ≡ a = cc in subst P same p
+value_of P (Err d) a p e = absurd (let apart : ◌≡◌ {A = ℕ} 0 1 = cc in omega arith)
 
-pub read_decodable : (room : Room) (s : List ℕ) (d : ResourceDef Text Text) → read room s ≡ ok d → Decodable d
+pub read_decodable : (room : Room) (s : List ℕ) (d : ResourceDef Text Text) → read room s ≡ Ok d → Decodable d
 unfolding read
 read_decodable room s d e = value_of Decodable (read_chunk s room) d (chunk_decodable s room) e
 
 -- What a caller of `parse_rdef` was handed decodes as what was read.
 pub decoded : (chunk b f v t : List ℕ) {nb nf nv nt : ℕ} {h : Header} {bindings buffers variables types : List ℕ}
-    → (held : Held (read_into chunk b f v t) nb nf nv nt h bindings buffers variables types) → decode h bindings buffers variables types ≡ some held.def
+    → (held : Held (read_into chunk b f v t) nb nf nv nt h bindings buffers variables types) → decode h bindings buffers variables types ≡ Some held.def
 unfolding read_into
 decoded chunk b f v t {nb} {nf} {nv} {nt} held =
     let d = held.def in

@@ -1,6 +1,9 @@
 -- From the header and the two walks to the answer and the tables of `read_tables`. The header leaves `read_tables` to be read; the walk of the bindings
 -- is its first step and the walk of the buffers its second; what the walks appended are the rows of what was read, so the counts are its numbers of records.
-use mathlib.Core.Path.{◌≡◌, refl, sym, ap, subst, ◌∙◌}
+use Rattle.reflection.specs.Outcome.{Outcome}
+use Rattle.reflection.specs.declared.refusal.Refusal.{Refusal}
+use Rattle.std.specs.Prelude.{Ok, Err}
+use mathlib.Core.Path.{◌≡◌, refl, sym, ap, ◌∙◌}
 use mathlib.Core.Bool.{Bool, true, false}
 use mathlib.Core.List.{List, []}
 use Prim.Native.Nat.{ℕ, ◌*◌, ◌-◌, ◌/◌, ◌≤◌, ◌<◌, min}
@@ -9,31 +12,26 @@ use native.Mathlib.Omega.{arith}
 use lib.ListN.{length, take}
 use lib.Seq.{length-take-le}
 use Rattle.words.specs.Words.{word_at}
-use Rattle.reflection.specs.Limits.{binding_room, buffer_room, variable_room, type_room, chunk_limit, binding_width, buffer_width, variable_width, type_width}
+use Rattle.reflection.specs.Limits.{binding_room, buffer_room, variable_room, type_room, binding_width, buffer_width, variable_width}
+use Rattle.reflection.specs.Limits.{type_width}
 use Rattle.reflection.specs.Strides.{buffer_stride}
 use Rattle.reflection.specs.declared.Text.{Text}
-use Rattle.reflection.specs.declared.Refusal.{Refusal}
 use Rattle.reflection.specs.declared.ResourceDef.{ResourceDef as Header}
-use Rattle.reflection.specs.Outcome.{Outcome, ok, refused}
 use Rattle.reflection.specs.Reflection.{Rd11, ResourceBinding, CBufferDef, ResourceDef, is_sm5, is_wide, identifier_of, stride_of, slots_of}
 use Rattle.tables.specs.Records.{binding_words_in_table, buffer_words_in_table, variable_words_in_table, type_words_in_table}
 use Rattle.tables.specs.Tables.{binding_record, buffer_record, variable_record, type_record, all_nodes}
 use Rattle.reflection.specs.Reflection.{all_variables}
 use Rattle.tables.specs.Tables.{binding_rows, buffer_rows, variable_rows, type_rows, header_of}
-use Rattle.read_spec.specs.Step.{Room, room, room_of, ReadStep, and_then, ◌>>=◌, return}
+use Rattle.read_spec.specs.Step.{Room, room, room_of, ReadStep, and_then, ◌>>=◌, return, Walk}
 use Rattle.read_spec.specs.Read.{read_many, read_binding, read_buffer, binding_stride, read_tables, read_chunk, without_room, read}
 use Rattle.words.specs.Words.{word_if}
 use Rattle.read_spec.proofs.Steps.{bind_is}
 use Rattle.read_spec.specs.declared.Counts.{Counts}
-use Rattle.read_spec.specs.declared.Walk.{Walk}
-use Rattle.read_spec.specs.declared.Walk.TheVariants.{Next, Refused as WalkRefused}
 use Rattle.read_types.specs.Progress.{Progress, progress, append_all}
-use Rattle.read_types.specs.Walked.{room_left, answered, AllGrew, GrewTo, Walked}
+use Rattle.read_types.specs.Walked.{room_left, answered, AllGrew, Walked}
 use Rattle.read_tables.specs.Bindings.{append_binding, bindings_progress, bindings_in, up_to_bindings}
 use Rattle.read_tables.specs.Buffers.{TableWords, append_buffer, buffers_progress, buffers_in, up_to_buffers}
-use Rattle.read.specs.declared.Parsed.TheVariants.{Read, Refused}
 use Rattle.read.specs.declared.ChunkHeader.{ChunkHeader}
-use Rattle.read.specs.declared.ChunkHeader.TheVariants.{Valid, Invalid}
 use Rattle.read.specs.Parsed.{parsed_of, read_into}
 use Rattle.read.specs.Header.{rd11_from_chunk, Headed}
 use Rattle.read.specs.Filled.{rows_of, Filled}
@@ -87,19 +85,14 @@ abbrev pub BuffersWalked : List ℕ → Bool → ℕ → ℕ → Counts → Coun
 BuffersWalked s sm5 count first capacity m f v t f₁ v₁ t₁ r =
     Walked (buffers_progress s sm5 count first) capacity (up_to_buffers capacity m) m (buffers_in f v t) (buffers_in f₁ v₁ t₁) r
 
--- What a walk counted.
-pub counted_to : {S : Type 0} {out : S → Room → Progress S} {capacity most n m : Counts} {before after : Counts → S} {answer : Walk}
-    → Walked out capacity most n before after answer → answer ≡ Next m → AllGrew most n m
-counted_to {most = most} {n} walked came = subst (GrewTo most n) came walked.grew
-
 -- The numbers of records that both walks came to are within the capacity.
 pub counts_within : {S T : Type 0} {out : S → Room → Progress S} {fout : T → Room → Progress T} {capacity m k : Counts}
-    {before after : Counts → S} {fbefore fafter : Counts → T} {answer fanswer : Walk}
-    → Walked out capacity (up_to_bindings capacity no_records) no_records before after answer → answer ≡ Next m
-    → Walked fout capacity (up_to_buffers capacity m) m fbefore fafter fanswer → fanswer ≡ Next k → AllGrew capacity no_records k
-counts_within walked came fwalked fcame =
-    let first-grew = counted_to walked came in
-    let grew = counted_to fwalked fcame in
+    {before after : Counts → S} {fbefore fafter : Counts → T}
+    → Walked out capacity (up_to_bindings capacity no_records) no_records before after (Ok m)
+    → Walked fout capacity (up_to_buffers capacity m) m fbefore fafter (Ok k) → AllGrew capacity no_records k
+counts_within walked fwalked =
+    let first-grew = walked.grew in
+    let grew = fwalked.grew in
     record {
       bindings = record { low = omega arith; high = omega (arith, grew.bindings.high, first-grew.bindings.high) };
       buffers = record { low = omega arith; high = grew.buffers.high };
@@ -107,19 +100,14 @@ counts_within walked came fwalked fcame =
       types = record { low = omega arith; high = grew.types.high };
     }
 
-pub chunk-fits : (s : List ℕ) {h : ChunkHeader} {creator : Text} {sm5 wide : Bool} → h ≡ Valid creator sm5 wide → Headed s h → length s ≤ chunk_limit
-chunk-fits s {creator = creator} {sm5} {wide} q headed = let valid : Headed s (Valid creator sm5 wide) = subst (Headed s) q headed in valid.0
-
 -- A refusal is the answer, and says nothing of the tables.
-pub refused_filled : {out : Outcome (ResourceDef Text Text)} (b f v t : List ℕ) (e : Refusal) → out ≡ refused e → Filled out b f v t (Refused e)
+pub refused_filled : {out : Outcome (ResourceDef Text Text)} (b f v t : List ℕ) (e : Refusal) → out ≡ Err e → Filled out b f v t (Err e)
 unfolding parsed_of
 refused_filled b f v t e h = record { answer = sym (ap parsed_of h); rows = tt }
 
-pub header_refused : (s : List ℕ) {b f v t : List ℕ} {h : ChunkHeader} (e : Refusal) → h ≡ Invalid e → Headed s h
-    → Filled (read_into s b f v t) b f v t (Refused e)
+pub header_refused : (s : List ℕ) {b f v t : List ℕ} (e : Refusal) → Headed s (Err e) → Filled (read_into s b f v t) b f v t (Err e)
 unfolding read_into read
-header_refused s {b} {f} {v} {t} e q headed =
-    let invalid : Headed s (Invalid e) = subst (Headed s) q headed in refused_filled b f v t e (ap without_room (invalid _))
+header_refused s {b} {f} {v} {t} e headed = refused_filled b f v t e (ap without_room (headed _))
 
 -- The capacity is the room of the tables b, f, v and t.
 pub record IsRoom (b f v t : List ℕ) (capacity : Counts) : Type 0 where
@@ -137,9 +125,15 @@ all_left : {n k : ℕ} → n ≡ k → k ≡ n - 0
 all_left e = omega (arith, e)
 
 module _ (s : List ℕ) {b f v t : List ℕ} {capacity : Counts} (is-room : IsRoom b f v t capacity)
-    {h : ChunkHeader} {creator : Text} {sm5 wide : Bool} (q : h ≡ Valid creator sm5 wide) (headed : Headed s h) where
-  valid : Headed s (Valid creator sm5 wide)
-  valid = subst (Headed s) q headed
+    (h : ChunkHeader) (valid : Headed s (Ok h)) where
+  abbrev creator : Text
+  creator = h.creator
+
+  abbrev sm5 : Bool
+  sm5 = h.sm5
+
+  abbrev wide : Bool
+  wide = h.wide
 
   abbrev out : Outcome (ResourceDef Text Text)
   out = read_into s b f v t
@@ -171,25 +165,25 @@ module _ (s : List ℕ) {b f v t : List ℕ} {capacity : Counts} (is-room : IsRo
       ∙ ap without_room (bind_is _ _ start)
 
   -- The bindings were walked.
-  module _ {count first : ℕ} (count-is : count ≡ word_at s 8) (first-is : first ≡ word_at s 12) (b₁ : List ℕ) {answer : Walk}
-      (walked : BindingsWalked s wide count first capacity b b₁ answer) where
-    bindings_outcome : progress (append_all append_binding) (read_bindings start) [] ≡ answered capacity (bindings_in b₁) answer
-    bindings_outcome = (λ i. bindings_progress s (sym valid.1.0 i) (sym count-is i) (sym first-is i) [] start) ∙ walked.outcome
+  module _ {count first : ℕ} (count-is : count ≡ word_at s 8) (first-is : first ≡ word_at s 12) (b₁ : List ℕ) where
+    bindings_outcome : {answer : Walk} → BindingsWalked s wide count first capacity b b₁ answer
+        → progress (append_all append_binding) (read_bindings start) [] ≡ answered capacity (bindings_in b₁) answer
+    bindings_outcome walked = (λ i. bindings_progress s (sym valid.1.0 i) (sym count-is i) (sym first-is i) [] start) ∙ walked.outcome
 
-    pub bindings_refused : {f₁ v₁ t₁ : List ℕ} (e : Refusal) → answer ≡ WalkRefused e → Filled out b₁ f₁ v₁ t₁ (Refused e)
-    bindings_refused {f₁} {v₁} {t₁} e is =
+    pub bindings_refused : {f₁ v₁ t₁ : List ℕ} (e : Refusal) → BindingsWalked s wide count first capacity b b₁ (Err e) → Filled out b₁ f₁ v₁ t₁ (Err e)
+    bindings_refused {f₁} {v₁} {t₁} e walked =
         refused_filled b₁ f₁ v₁ t₁ e
         (out_from_bindings
         ∙ ap (λ (x : Outcome (List (ResourceBinding Text) × Room)). without_room (and_then x with_buffers))
-        (stopped_refused (append_all append_binding) [] (read_bindings start) e (bindings_outcome ∙ ap (answered capacity (bindings_in b₁)) is)))
+        (stopped_refused (append_all append_binding) [] (read_bindings start) e (bindings_outcome walked)))
 
-    module _ {m : Counts} (came : answer ≡ Next m) where
+    module _ {m : Counts} (walked : BindingsWalked s wide count first capacity b b₁ (Ok m)) where
       abbrev left : Room
       left = room_left capacity m
 
       bindings_read : WasRead (append_all append_binding) (read_bindings start) [] (bindings_in b₁ m) left
       bindings_read =
-          reached_read (append_all append_binding) [] (read_bindings start) (bindings_in b₁ m) left (bindings_outcome ∙ ap (answered capacity (bindings_in b₁)) came)
+          reached_read (append_all append_binding) [] (read_bindings start) (bindings_in b₁ m) left (bindings_outcome walked)
 
       out_from_buffers : out ≡ without_room (and_then (read_buffers left) (λ fs. return (whole bindings_read.value fs)))
       out_from_buffers =
@@ -200,29 +194,29 @@ module _ (s : List ℕ) {b f v t : List ℕ} {capacity : Counts} (is-room : IsRo
       -- the other tables have no record yet
       others_empty : ◌≡◌ {A = TableWords} ([], ([], [])) (buffers_in f v t m)
       others_empty =
-          let grew = counted_to walked came in
+          let grew = walked.grew in
           let no_buffer : 0 ≡ m.buffers = omega (arith, grew.buffers.high) in
           let no_variable : 0 ≡ m.variables = omega (arith, grew.variables.high) in
           let no-type : 0 ≡ m.types = omega (arith, grew.types.high) in
           λ i. (take (no_buffer i * buffer_width) f, (take (no_variable i * variable_width) v, take (no-type i * type_width) t))
 
       -- The buffers were walked.
-      module _ {fcount ffirst : ℕ} (fcount-is : fcount ≡ word_at s 0) (ffirst-is : ffirst ≡ word_at s 4) (f₁ v₁ t₁ : List ℕ) {fanswer : Walk}
-          (fwalked : BuffersWalked s sm5 fcount ffirst capacity m f v t f₁ v₁ t₁ fanswer) where
-        buffers_outcome : progress (append_all append_buffer) (read_buffers left) ([], ([], [])) ≡ answered capacity (buffers_in f₁ v₁ t₁) fanswer
-        buffers_outcome = (λ i. buffers_progress s (sm5_is s sm5 i) (sym fcount-is i) (sym ffirst-is i) (others_empty i) left) ∙ fwalked.outcome
+      module _ {fcount ffirst : ℕ} (fcount-is : fcount ≡ word_at s 0) (ffirst-is : ffirst ≡ word_at s 4) (f₁ v₁ t₁ : List ℕ) where
+        buffers_outcome : {fanswer : Walk} → BuffersWalked s sm5 fcount ffirst capacity m f v t f₁ v₁ t₁ fanswer
+            → progress (append_all append_buffer) (read_buffers left) ([], ([], [])) ≡ answered capacity (buffers_in f₁ v₁ t₁) fanswer
+        buffers_outcome fwalked = (λ i. buffers_progress s (sm5_is s sm5 i) (sym fcount-is i) (sym ffirst-is i) (others_empty i) left) ∙ fwalked.outcome
 
-        pub buffers_refused : (e : Refusal) → fanswer ≡ WalkRefused e → Filled out b₁ f₁ v₁ t₁ (Refused e)
-        buffers_refused e is =
+        pub buffers_refused : (e : Refusal) → BuffersWalked s sm5 fcount ffirst capacity m f v t f₁ v₁ t₁ (Err e) → Filled out b₁ f₁ v₁ t₁ (Err e)
+        buffers_refused e fwalked =
             refused_filled b₁ f₁ v₁ t₁ e
             (out_from_buffers
             ∙ ap (λ (x : Outcome (List (CBufferDef Text Text) × Room)). without_room (and_then x (λ fs. return (whole bindings_read.value fs))))
-            (stopped_refused (append_all append_buffer) ([], ([], [])) (read_buffers left) e (buffers_outcome ∙ ap (answered capacity (buffers_in f₁ v₁ t₁)) is)))
+            (stopped_refused (append_all append_buffer) ([], ([], [])) (read_buffers left) e (buffers_outcome fwalked)))
 
-        module _ {k : Counts} (fcame : fanswer ≡ Next k) where
+        module _ {k : Counts} (fwalked : BuffersWalked s sm5 fcount ffirst capacity m f v t f₁ v₁ t₁ (Ok k)) where
           -- the buffers' walk left the bindings as they were, and each table is within its capacity
           all_counted : AllGrew capacity no_records k
-          all_counted = counts_within walked came fwalked fcame
+          all_counted = counts_within walked fwalked
 
           abbrev words : TableWords
           words = buffers_in f₁ v₁ t₁ k
@@ -230,12 +224,12 @@ module _ (s : List ℕ) {b f v t : List ℕ} {capacity : Counts} (is-room : IsRo
           buffers_read : WasRead (append_all append_buffer) (read_buffers left) ([], ([], [])) words (room_left capacity k)
           buffers_read =
               reached_read (append_all append_buffer) ([], ([], [])) (read_buffers left) words (room_left capacity k)
-              (buffers_outcome ∙ ap (answered capacity (buffers_in f₁ v₁ t₁)) fcame)
+              (buffers_outcome fwalked)
 
           abbrev def : ResourceDef Text Text
           def = whole bindings_read.value buffers_read.value
 
-          out_read : out ≡ ok def
+          out_read : out ≡ Ok def
           unfolding return
           out_read =
               out_from_buffers
@@ -245,7 +239,7 @@ module _ (s : List ℕ) {b f v t : List ℕ} {capacity : Counts} (is-room : IsRo
           binding_words : binding_rows def ≡ bindings_in b₁ k
           unfolding binding_rows
           binding_words =
-              let grew = counted_to fwalked fcame in
+              let grew = fwalked.grew in
               let same : m.bindings ≡ k.bindings = omega (arith, grew.bindings.low, grew.bindings.high) in
               sym (bindings_append_rows def.bindings []) ∙ bindings_read.words ∙ ap (λ (x : ℕ). take (x * binding_width) b₁) same
 
@@ -304,10 +298,10 @@ module _ (s : List ℕ) {b f v t : List ℕ} {capacity : Counts} (is-room : IsRo
             rows_are : (rows : ResourceDef Text Text → List ℕ) (l : List ℕ) (n : ℕ) → rows def ≡ take n l → take n l ≡ rows_of rows out l
             rows_are rows l n e = sym e ∙ sym (ap (λ (o : Outcome (ResourceDef Text Text)). rows_of rows o l) out_read)
 
-            pub tables_filled : Filled out b₁ f₁ v₁ t₁ (Read header)
+            pub tables_filled : Filled out b₁ f₁ v₁ t₁ (Ok header)
             unfolding parsed_of
             tables_filled = record {
-              answer = ap Read header_is ∙ sym (ap parsed_of out_read);
+              answer = ap Ok header_is ∙ sym (ap parsed_of out_read);
               rows = (
                 rows_are binding_rows b₁ (k.bindings * binding_width) binding_words,
                 (

@@ -1,3 +1,4 @@
+pub mod Answer
 pub mod Parsed
 pub mod Header
 pub mod Filled

@@ -1,18 +1,17 @@
 -- What `parse_rdef` answers, and what it leaves in the four lent tables, by the definition of reading.
-use Rattle.std.specs.Prelude.{◌≡◌, List, ℕ, length}
+use Rattle.reflection.specs.Outcome.{Outcome}
+use Rattle.read.specs.Answer.{Parsed}
+use Rattle.std.specs.Prelude.{◌≡◌, List, ℕ, length, Ok, Err}
 use Rattle.reflection.specs.declared.Text.{Text}
-use Rattle.reflection.specs.Outcome.{Outcome, ok, refused}
 use Rattle.reflection.specs.Reflection.{ResourceDef}
 use Rattle.tables.specs.Tables.{binding_rows, buffer_rows, variable_rows, type_rows, table, header_of}
 use Rattle.read_spec.specs.Step.{room_of}
 use Rattle.read_spec.specs.Read.{read}
-use Rattle.read.specs.declared.Parsed.{Parsed}
-use Rattle.read.specs.declared.Parsed.TheVariants.{Read, Refused}
 
 -- The answer's two cases: the header of what was read, or the refusal with document 01's number.
 unfoldable pub parsed_of : Outcome (ResourceDef Text Text) → Parsed
-parsed_of (ok r) = Read (header_of r)
-parsed_of (refused e) = Refused e
+parsed_of (Ok r) = Ok (header_of r)
+parsed_of (Err e) = Err e
 
 -- What a chunk reads as, where the four tables are as long as these.
 unfoldable pub read_into : List ℕ → List ℕ → List ℕ → List ℕ → List ℕ → Outcome (ResourceDef Text Text)

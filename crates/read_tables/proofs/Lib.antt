@@ -1,7 +1,6 @@
 -- Laws that the walks' proofs cite.
 mod Many
 mod Loop
-mod Range
 mod Codes
 mod Default
 mod Taking

@@ -1,4 +1,8 @@
 -- What reading one binding appends: each law follows the steps of `read_binding` up to the first that ends the walk.
+use Rattle.reflection.specs.Outcome.{Outcome}
+use Rattle.reflection.specs.declared.refusal.Refusal.{Refusal}
+use Rattle.std.specs.Prelude.{None, Some, Ok, Err}
+use Rattle.reflection.specs.declared.refusal.Refusal.TheVariants.{RecordPastEnd, BadName, NoRoom}
 use mathlib.Core.Path.{◌≡◌, refl, sym, ap, ◌∙◌}
 use mathlib.Core.Bool.{Bool, true, false}
 use mathlib.Core.List.{List, ◌++◌}
@@ -6,13 +10,11 @@ use Prim.Native.Nat.{ℕ, ◌≤◌, ◌<◌}
 use lib.ListN.{length}
 use Rattle.words.specs.Words.{word_at}
 use Rattle.words.specs.Parts.{inside}
-use Rattle.text.specs.declared.Found.TheVariants.{At, Bad}
+use Rattle.text.specs.Strings.{span}
 use Rattle.text.specs.Strings.{cstring_at}
 use Rattle.reflection.specs.Limits.{binding_width}
-use Rattle.reflection.specs.Refusals.{record_past_end, bad_name, no_room}
 use Rattle.reflection.specs.declared.Text.{Text}
 use Rattle.reflection.specs.declared.ResourceBinding.{ResourceBinding as BindingRecord}
-use Rattle.reflection.specs.Outcome.{Outcome, because}
 use Rattle.reflection.specs.Reflection.{ResourceBinding}
 use Rattle.reflection.specs.Texts.{in_chunk}
 use Rattle.tables.specs.Records.{binding_words_in_table, put_record}
@@ -23,7 +25,7 @@ use Rattle.read_spec.specs.Read.{read_binding, binding_stride, binding_from_chun
 use Rattle.read_spec.proofs.Steps.{check_holds, check_fails, text_found, text_bad}
 use Rattle.read_types.specs.Progress.{Progress, stopped, reached, progress}
 use Rattle.read_types.specs.Walked.{room_left}
-use Rattle.read_tables.specs.Bindings.{append_binding, code_fault, bindings_in, ReadyBindings}
+use Rattle.read_tables.specs.Bindings.{append_binding, code_check, bindings_in, ReadyBindings}
 use Rattle.read_tables.proofs.Put.{record_put}
 use Rattle.read_tables.proofs.Taking.{with_binding, no_binding, one_binding_lem}
 use Rattle.read_tables.proofs.Codes.{codes_hold, codes_fail}
@@ -35,27 +37,27 @@ module _ (s : List ℕ) (wide : Bool) (at : ℕ) (capacity n : Counts) (w : List
   abbrev one : Progress (List ℕ)
   one = appended (read_binding s wide at (room_left capacity n))
 
-  pub binding_full : capacity.bindings ≤ n.bindings → one ≡ stopped (because no_room)
+  pub binding_full : capacity.bindings ≤ n.bindings → one ≡ stopped NoRoom
   unfolding read_binding
   binding_full full = ap appended (no_binding capacity n _ full)
 
   module _ (free : n.bindings < capacity.bindings) where
-    pub binding_short : inside (length s) at (binding_stride wide) ≡ false → one ≡ stopped (because record_past_end)
+    pub binding_short : inside (length s) at (binding_stride wide) ≡ false → one ≡ stopped RecordPastEnd
     unfolding read_binding
     binding_short short = ap appended (one_binding_lem capacity n _ free ∙ check_fails _ _ _ _ short)
 
     module _ (fits : inside (length s) at (binding_stride wide) ≡ true) where
-      pub binding_coded_wrong : (e : ℕ) → e ≡ code_fault s at → 0 < e → one ≡ stopped (because e)
+      pub binding_coded_wrong : (e : Refusal) → code_check s at ≡ Err e → one ≡ stopped e
       unfolding read_binding
-      binding_coded_wrong e is some = ap appended (one_binding_lem capacity n _ free ∙ check_holds _ _ _ _ fits ∙ codes_fail _ _ _ _ e is some)
+      binding_coded_wrong e is = ap appended (one_binding_lem capacity n _ free ∙ check_holds _ _ _ _ fits ∙ codes_fail _ _ _ _ e is)
 
-      module _ (none : code_fault s at ≤ 0) where
-        pub binding_named_badly : cstring_at s (word_at s at) ≡ Bad → one ≡ stopped (because bad_name)
+      module _ (none : code_check s at ≡ Ok tt) where
+        pub binding_named_badly : cstring_at s (word_at s at) ≡ None → one ≡ stopped BadName
         unfolding read_binding
         binding_named_badly bad =
             ap appended (one_binding_lem capacity n _ free ∙ check_holds _ _ _ _ fits ∙ codes_hold _ _ _ _ none ∙ text_bad _ _ _ _ bad)
 
-        pub binding_read : (place k : ℕ) → cstring_at s (word_at s at) ≡ At place k
+        pub binding_read : (place k : ℕ) → cstring_at s (word_at s at) ≡ Some (span place k)
             → one ≡ reached (w ++ binding_words_in_table (binding_record (binding_from_chunk s wide at (in_chunk place k)))) (room_left capacity (with_binding n))
         unfolding read_binding append_binding return
         binding_read place k name =
@@ -65,8 +67,8 @@ module _ (s : List ℕ) (wide : Bool) (at : ℕ) (capacity n : Counts) (w : List
 module _ {s : List ℕ} {capacity n₀ : Counts} {bindings₀ : List ℕ} (ready : ReadyBindings s capacity n₀ bindings₀) (wide : Bool) (at : ℕ) (n : Counts)
     (bindings : List ℕ) (long : length bindings ≡ length bindings₀) (free : n.bindings < capacity.bindings)
     (fits : inside (length s) at (binding_stride wide) ≡ true)
-    (none : code_fault s at ≤ 0) where
-  pub binding_written : {place k : ℕ} → cstring_at s (word_at s at) ≡ At place k → {name : Text} → name ≡ in_chunk place k
+    (none : code_check s at ≡ Ok tt) where
+  pub binding_written : {place k : ℕ} → cstring_at s (word_at s at) ≡ Some (span place k) → {name : Text} → name ≡ in_chunk place k
       → {binding : BindingRecord} → binding ≡ binding_record (binding_from_chunk s wide at name)
       → {bindings₁ : List ℕ} → bindings₁ ≡ put_record binding_width bindings n.bindings (binding_words_in_table binding)
       → progress append_binding (read_binding s wide at (room_left capacity n)) (bindings_in bindings n)

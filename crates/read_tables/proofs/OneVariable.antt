@@ -1,5 +1,9 @@
 -- What reading one variable appends: each law follows the steps of `read_variable` up to the first that ends the walk.
-use mathlib.Core.Path.{◌≡◌, refl, sym, ap, subst, ◌∙◌}
+use Rattle.reflection.specs.Outcome.{Outcome}
+use Rattle.std.specs.Prelude.{None, Ok, Err, Some}
+use Rattle.reflection.specs.declared.refusal.Refusal.TheVariants.{RecordPastEnd, BadName, DefaultPastEnd, NoRoom}
+use Rattle.reflection.specs.declared.refusal.Refusal.{Refusal}
+use mathlib.Core.Path.{◌≡◌, refl, sym, ap, ◌∙◌}
 use mathlib.Core.Bool.{Bool, true, false}
 use mathlib.Core.List.{List, [], ◌++◌}
 use Prim.Native.Nat.{ℕ, ◌+◌, ◌*◌, ◌≤◌, ◌<◌}
@@ -7,22 +11,17 @@ use native.Mathlib.Omega.{arith}
 use lib.ListN.{length, take}
 use Rattle.words.specs.Words.{word_at}
 use Rattle.words.specs.Parts.{inside}
-use Rattle.text.specs.declared.Found.TheVariants.{At, Bad}
+use Rattle.text.specs.Strings.{span}
 use Rattle.text.specs.Strings.{cstring_at}
 use Rattle.reflection.specs.Limits.{variable_width, type_levels}
-use Rattle.reflection.specs.Refusals.{record_past_end, bad_name, default_past_end, no_room}
 use Rattle.reflection.specs.declared.Text.{Text}
-use Rattle.reflection.specs.declared.Refusal.{Refusal}
 use Rattle.reflection.specs.declared.CBufferVariable.{CBufferVariable as VariableRecord}
-use Rattle.reflection.specs.Outcome.{Outcome, ok, refused, because}
 use Rattle.reflection.specs.Reflection.{TypeDesc, CBufferVariable}
 use Rattle.reflection.specs.Texts.{in_chunk}
 use Rattle.tables.specs.Records.{variable_words_in_table, put_record}
 use Rattle.tables.specs.Tables.{variable_record}
 use Rattle.read_spec.specs.declared.Counts.{Counts}
-use Rattle.read_spec.specs.declared.Walk.{Walk}
-use Rattle.read_spec.specs.declared.Walk.TheVariants.{Next, Refused}
-use Rattle.read_spec.specs.Step.{Room, and_then, return}
+use Rattle.read_spec.specs.Step.{Room, and_then, return, Walk}
 use Rattle.read_spec.specs.Read.{read_variable, read_type, variable_stride, variable_from_chunk, default_at}
 use Rattle.read_spec.proofs.Steps.{check_holds, check_fails, bind_is, text_found, text_bad}
 use Rattle.read_types.specs.Progress.{Progress, stopped, reached, progress, onward}
@@ -43,27 +42,27 @@ module _ (s : List ℕ) (sm5 : Bool) (at : ℕ) (capacity n : Counts) (w : List 
   abbrev one : Progress (List ℕ × List ℕ)
   one = appended (read_variable s sm5 at (room_left capacity n))
 
-  pub variable_full : capacity.variables ≤ n.variables → one ≡ stopped (because no_room)
+  pub variable_full : capacity.variables ≤ n.variables → one ≡ stopped NoRoom
   unfolding read_variable
   variable_full full = ap appended (no_variable capacity n _ full)
 
   module _ (free : n.variables < capacity.variables) where
-    pub variable_short : inside (length s) at (variable_stride sm5) ≡ false → one ≡ stopped (because record_past_end)
+    pub variable_short : inside (length s) at (variable_stride sm5) ≡ false → one ≡ stopped RecordPastEnd
     unfolding read_variable
     variable_short short = ap appended (one_variable capacity n _ free ∙ check_fails _ _ _ _ short)
 
     module _ (fits : inside (length s) at (variable_stride sm5) ≡ true) where
-      pub variable_default_outside : default_at s (word_at s (at + 20)) (word_at s (at + 8)) ≡ Bad → one ≡ stopped (because default_past_end)
+      pub variable_default_outside : default_at s (word_at s (at + 20)) (word_at s (at + 8)) ≡ None → one ≡ stopped DefaultPastEnd
       unfolding read_variable
       variable_default_outside outside = ap appended (one_variable capacity n _ free ∙ check_holds _ _ _ _ fits ∙ text_bad _ _ _ _ outside)
 
-      module _ (dplace dlength : ℕ) (default : default_at s (word_at s (at + 20)) (word_at s (at + 8)) ≡ At dplace dlength) where
-        pub variable_named_badly : cstring_at s (word_at s at) ≡ Bad → one ≡ stopped (because bad_name)
+      module _ (dplace dlength : ℕ) (default : default_at s (word_at s (at + 20)) (word_at s (at + 8)) ≡ Some (span dplace dlength)) where
+        pub variable_named_badly : cstring_at s (word_at s at) ≡ None → one ≡ stopped BadName
         unfolding read_variable
         variable_named_badly bad =
             ap appended (one_variable capacity n _ free ∙ check_holds _ _ _ _ fits ∙ text_found _ _ _ _ dplace dlength default ∙ text_bad _ _ _ _ bad)
 
-        variable_read : (place k : ℕ) → cstring_at s (word_at s at) ≡ At place k
+        variable_read : (place k : ℕ) → cstring_at s (word_at s at) ≡ Some (span place k)
             → one
             ≡ recorded (w.0 ++ variable_words_in_table (variable_record_in_chunk s sm5 at (in_chunk place k) (in_chunk dplace dlength)))
             (type_progress s sm5 type_levels [] (word_at s (at + 16)) (in_chunk 0 0) 0 w.1 (room_left capacity (with_variable n)))
@@ -81,8 +80,8 @@ module _ (s : List ℕ) (sm5 : Bool) (at : ℕ) (capacity n : Counts) (w : List 
                 → appended (and_then y (λ type. return (variable_from_chunk s sm5 at (in_chunk place k) (in_chunk dplace dlength) type)))
                 ≡ recorded (w.0 ++ variable_words_in_table (variable_record_in_chunk s sm5 at (in_chunk place k) (in_chunk dplace dlength)))
                 (progress (append_type (in_chunk 0 0) 0) y w.1)
-            typed (ok z) = refl
-            typed (refused e) = refl
+            typed (Ok z) = refl
+            typed (Err e) = refl
 
 -- The variable passed its tests, its record is written, and its type lies at `below`, which no member leads to.
 pub record VariableWritten (s : List ℕ) (sm5 : Bool) (at : ℕ) (capacity n : Counts) (variables variables₁ : List ℕ) (below : ℕ) (root : Text) : Type 0 where
@@ -90,10 +89,10 @@ pub record VariableWritten (s : List ℕ) (sm5 : Bool) (at : ℕ) (capacity n : 
   pub fits : inside (length s) at (variable_stride sm5) ≡ true
   pub dplace : ℕ
   pub dlength : ℕ
-  pub default : default_at s (word_at s (at + 20)) (word_at s (at + 8)) ≡ At dplace dlength
+  pub default : default_at s (word_at s (at + 20)) (word_at s (at + 8)) ≡ Some (span dplace dlength)
   pub place : ℕ
   pub k : ℕ
-  pub found : cstring_at s (word_at s at) ≡ At place k
+  pub found : cstring_at s (word_at s at) ≡ Some (span place k)
   pub taken : take ((n.variables + 1) * variable_width) variables₁
       ≡ take (n.variables * variable_width) variables ++ variable_words_in_table (variable_record_in_chunk s sm5 at (in_chunk place k) (in_chunk dplace dlength))
   pub is_below : below ≡ word_at s (at + 16)
@@ -129,11 +128,10 @@ module _ {s : List ℕ} {sm5 : Bool} {at : ℕ} {capacity n : Counts} {variables
       ∙ (λ i. recorded (sym v.taken i) (type_progress s sm5 type_levels [] (sym v.is_below i) (sym v.is_root i) 0 (nodes_in types n) left))
       ∙ ap (recorded (take ((n.variables + 1) * variable_width) variables₁)) type.walked.outcome
 
-  pub variable_refused : {r : Walk} {e : Refusal} → r ≡ Refused e → walked r → variable ≡ stopped e
-  variable_refused {r} {e} is type = typed (Refused e) (subst walked is type)
+  pub variable_refused : {e : Refusal} → walked (Err e) → variable ≡ stopped e
+  variable_refused {e} type = typed (Err e) type
 
-  pub variable_filled : {r : Walk} {m : Counts} → r ≡ Next m → walked r → variable ≡ reached (variables_in variables₁ types₁ m) (room_left capacity m)
-  variable_filled {r} {m} is answer =
-      let type : walked (Next m) = subst walked is answer in
+  pub variable_filled : {m : Counts} → walked (Ok m) → variable ≡ reached (variables_in variables₁ types₁ m) (room_left capacity m)
+  variable_filled {m} type =
       let counted : n.variables + 1 ≡ m.variables = omega (arith, type.walked.grew.variables.low, type.walked.grew.variables.high) in
-      typed (Next m) type ∙ ap (λ (k : ℕ). reached (take (k * variable_width) variables₁, nodes_in types₁ m) (room_left capacity m)) counted
+      typed (Ok m) type ∙ ap (λ (k : ℕ). reached (take (k * variable_width) variables₁, nodes_in types₁ m) (room_left capacity m)) counted

@@ -1,9 +1,9 @@
 -- A record is taken where its table has room, and refused where it has none: the steps of reading, in words of the tables' numbers of records.
+use Rattle.std.specs.Prelude.{Err}
+use Rattle.reflection.specs.declared.refusal.Refusal.TheVariants.{NoRoom}
 use mathlib.Core.Path.{◌≡◌, ap, ◌∙◌}
 use Prim.Native.Nat.{ℕ, suc, ◌+◌, ◌-◌, ◌≤◌, ◌<◌}
 use native.Mathlib.Omega.{arith}
-use Rattle.reflection.specs.Outcome.{refused, because}
-use Rattle.reflection.specs.Refusals.{no_room}
 use Rattle.read_spec.specs.declared.Counts.{Counts}
 use Rattle.read_spec.specs.Step.{Room, room, ReadStep, ◌>>=◌, take_binding, take_buffer, take_variable}
 use Rattle.read_spec.proofs.Steps.{binding_none, binding_taken, buffer_none, buffer_taken, variable_none, variable_taken}
@@ -29,7 +29,7 @@ module _ {A : Type 0} (capacity n : Counts) (g : Unit {0} → ReadStep A) where
   abbrev left : Room
   left = room_left capacity n
 
-  pub no_binding : capacity.bindings ≤ n.bindings → (take_binding >>= g) left ≡ refused (because no_room)
+  pub no_binding : capacity.bindings ≤ n.bindings → (take_binding >>= g) left ≡ Err NoRoom
   no_binding full =
       ap (λ (k : ℕ). (take_binding >>= g) (room k left.buffers left.variables left.types)) (none_left capacity.bindings n.bindings full)
       ∙ binding_none 0 left.buffers left.variables left.types g
@@ -39,7 +39,7 @@ module _ {A : Type 0} (capacity n : Counts) (g : Unit {0} → ReadStep A) where
       ap (λ (k : ℕ). (take_binding >>= g) (room k left.buffers left.variables left.types)) (one_left capacity.bindings n.bindings free)
       ∙ binding_taken _ left.buffers left.variables left.types g
 
-  pub no_buffer : capacity.buffers ≤ n.buffers → (take_buffer >>= g) left ≡ refused (because no_room)
+  pub no_buffer : capacity.buffers ≤ n.buffers → (take_buffer >>= g) left ≡ Err NoRoom
   no_buffer full =
       ap (λ (k : ℕ). (take_buffer >>= g) (room left.bindings k left.variables left.types)) (none_left capacity.buffers n.buffers full)
       ∙ buffer_none left.bindings 0 left.variables left.types g
@@ -49,7 +49,7 @@ module _ {A : Type 0} (capacity n : Counts) (g : Unit {0} → ReadStep A) where
       ap (λ (k : ℕ). (take_buffer >>= g) (room left.bindings k left.variables left.types)) (one_left capacity.buffers n.buffers free)
       ∙ buffer_taken left.bindings _ left.variables left.types g
 
-  pub no_variable : capacity.variables ≤ n.variables → (take_variable >>= g) left ≡ refused (because no_room)
+  pub no_variable : capacity.variables ≤ n.variables → (take_variable >>= g) left ≡ Err NoRoom
   no_variable full =
       ap (λ (k : ℕ). (take_variable >>= g) (room left.bindings left.buffers k left.types)) (none_left capacity.variables n.variables full)
       ∙ variable_none left.bindings left.buffers 0 left.types g

@@ -1,6 +1,8 @@
 -- Vocabulary of internal contracts: no contract of an exported function and no demand cites it.
 -- The walk of the bindings: what it is given, and what it leaves.
-use Rattle.std.specs.Prelude.{Bool, true, false, List, ◌++◌, ℕ, ◌+◌, ◌*◌, ◌≤◌, length, take}
+use Rattle.reflection.specs.Outcome.{Outcome}
+use Rattle.reflection.specs.declared.refusal.Refusal.TheVariants.{BadInputType, BadDimension, BadBindingFlags}
+use Rattle.std.specs.Prelude.{Bool, true, false, Ok, Err, List, ◌++◌, ℕ, ◌+◌, ◌*◌, ◌≤◌, length, take}
 use Rattle.words.specs.Words.{word_at}
 use Rattle.codes.specs.Table.{known}
 use Rattle.codes.specs.Microsoft.{input_types, srv_dimensions}
@@ -10,7 +12,6 @@ use Rattle.reflection.specs.declared.Text.{Text}
 use Rattle.reflection.specs.Reflection.{ResourceBinding}
 use Rattle.tables.specs.Records.{binding_words_in_table}
 use Rattle.tables.specs.Tables.{binding_record}
-use Rattle.reflection.specs.Refusals.{bad_input_type, bad_dimension, bad_binding_flags}
 use Rattle.read_spec.specs.declared.Counts.{Counts}
 use Rattle.read_spec.specs.Step.{Room}
 use Rattle.read_spec.specs.Read.{read_binding, binding_stride}
@@ -25,15 +26,15 @@ append_binding x w = w ++ binding_words_in_table (binding_record x)
 abbrev pub bindings_progress : List ℕ → Bool → ℕ → ℕ → List ℕ → Room → Progress (List ℕ)
 bindings_progress s wide n at = many_progress append_binding (read_binding s wide) (binding_stride wide) n at
 
--- The refusal of the first code of the binding at an offset that is not in Microsoft's tables, else 0.
-unfoldable pub code_fault : List ℕ → ℕ → ℕ
-code_fault s at =
+-- Whether the codes of the binding at an offset are in Microsoft's tables: the input type, the dimension, the flags.
+unfoldable pub code_check : List ℕ → ℕ → Outcome (Unit {0})
+code_check s at =
     elim (known input_types (word_at s (at + 4))) [
       | true ↦ elim (known srv_dimensions (word_at s (at + 12))) [
-        | true ↦ elim (binding_flags_allowed (word_at s (at + 28))) [ true ↦ 0 | false ↦ bad_binding_flags ]
-        | false ↦ bad_dimension
+        | true ↦ elim (binding_flags_allowed (word_at s (at + 28))) [ true ↦ Ok tt | false ↦ Err BadBindingFlags ]
+        | false ↦ Err BadDimension
       ]
-      | false ↦ bad_input_type
+      | false ↦ Err BadInputType
     ]
 
 -- What so many bindings of a table hold.

@@ -4,16 +4,12 @@ ghost use Rattle.reflection.specs.Limits.{chunk_limit};
 ghost use Rattle.tables.specs.Tables.{binding_record};
 ghost use Rattle.read_spec.specs.Read.{binding_stride, binding_from_chunk};
 ghost use Rattle.read_types.specs.Walked.{Walked};
-ghost use Rattle.read_tables.specs.Bindings.{code_fault, bindings_progress, bindings_in, up_to_bindings, ReadyBindings};
+ghost use Rattle.read_tables.specs.Bindings.{code_check, bindings_progress, bindings_in, up_to_bindings, ReadyBindings};
 
 use codes::{ResourceDimension, ResourceInputType};
 use flags::BindingFlags;
-use read_spec::{Counts, Walk};
-use reflection::{
-    BAD_NAME, BINDING_STRIDE, NO_ROOM, RECORD_PAST_END, Refusal, ResourceBinding, Text,
-    WIDE_BINDING_STRIDE, in_chunk,
-};
-use text::Found;
+use read_spec::Counts;
+use reflection::{BINDING_STRIDE, Refusal, ResourceBinding, Text, WIDE_BINDING_STRIDE, in_chunk};
 
 // How many bytes a binding takes.
 fn binding_stride(wide: bool) -> usize
@@ -26,34 +22,28 @@ fn binding_stride(wide: bool) -> usize
     }
 }
 
-// The refusal of the first code of the binding at `at` that is not in Microsoft's tables, else 0.
-fn code_fault(chunk: &[u8], at: usize) -> u32
+// Whether the codes of the binding at `at` are in Microsoft's tables.
+fn check_codes(chunk: &[u8], at: usize) -> Result<(), Refusal>
     requires { at ≤ chunk_limit }
-    ensures { result ≡ code_fault chunk.now at }
+    ensures { result ≡ code_check chunk.now at }
 {
-    if ResourceInputType::is_known(words::word_at(chunk, at + 4)) {
-        if ResourceDimension::is_known(words::word_at(chunk, at + 12)) {
-            let flags = BindingFlags(words::word_at(chunk, at + 28));
-            if flags.allowed() {
-                0
-            } else {
-                reflection::BAD_BINDING_FLAGS
-            }
-        } else {
-            reflection::BAD_DIMENSION
-        }
+    ResourceInputType::try_from(words::word_at(chunk, at + 4)).map_err(|_| Refusal::BadInputType)?;
+    ResourceDimension::try_from(words::word_at(chunk, at + 12)).map_err(|_| Refusal::BadDimension)?;
+    if BindingFlags(words::word_at(chunk, at + 28)).allowed() {
+        Ok(())
     } else {
-        reflection::BAD_INPUT_TYPE
+        Err(Refusal::BadBindingFlags)
     }
 }
 
 // The binding at `at`, whose name is known.
+#[tactic(auto, unfolding(tables::specs::Tables::binding_record, read_spec::specs::Read::binding_from_chunk))]
 fn binding_record(chunk: &[u8], at: usize, wide: bool, name: Text) -> ResourceBinding
     requires { at ≤ chunk_limit }
     ensures { result ≡ binding_record (binding_from_chunk chunk.now wide at name) }
 {
     ResourceBinding {
-        name: name,
+        name,
         input_type: words::word_at(chunk, at + 4),
         return_type: words::word_at(chunk, at + 8),
         dimension: words::word_at(chunk, at + 12),
@@ -67,6 +57,7 @@ fn binding_record(chunk: &[u8], at: usize, wide: bool, name: Text) -> ResourceBi
 }
 
 // Walks `count` bindings, whose records begin at `first`: they follow those that there are.
+#[tactic(auto, using(words::proofs::Parts::inside_fits))]
 pub fn walk_bindings(
     chunk: &[u8],
     first: u32,
@@ -75,7 +66,7 @@ pub fn walk_bindings(
     capacity: Counts,
     bindings: &mut [u32],
     counts: Counts,
-) -> Walk
+) -> Result<Counts, Refusal>
     requires { ReadyBindings chunk.now capacity counts bindings.old }
     ensures { Walked (bindings_progress chunk.now wide count first)
         capacity (up_to_bindings capacity counts) counts (bindings_in bindings.old) (bindings_in bindings.new) result }
@@ -83,31 +74,26 @@ pub fn walk_bindings(
     let stride = binding_stride(wide);
     let mut next = counts;
     let mut at = first as usize;
-    let mut left = count;
-    while 0 < left {
+    for _ in 0..count {
         let n = next.bindings;
         if capacity.bindings <= n {
-            return Walk::Refused(Refusal { number: NO_ROOM });
+            return Err(Refusal::NoRoom);
         }
         if !words::inside(chunk.len(), at, stride) {
-            return Walk::Refused(Refusal {
-                number: RECORD_PAST_END,
-            });
+            return Err(Refusal::RecordPastEnd);
         }
-        let fault = code_fault(chunk, at);
-        if 0 < fault {
-            return Walk::Refused(Refusal { number: fault });
-        }
+        check_codes(chunk, at)?;
         let name = words::word_at(chunk, at);
-        let found = text::cstring_at(chunk, name as usize);
-        let Found::At(place, length) = found else {
-            return Walk::Refused(Refusal { number: BAD_NAME });
-        };
-        let binding = binding_record(chunk, at, wide, in_chunk(place as u32, length as u32));
+        let found = text::cstring_at(chunk, name as usize).ok_or(Refusal::BadName)?;
+        let binding = binding_record(
+            chunk,
+            at,
+            wide,
+            in_chunk(found.place as u32, found.length as u32),
+        );
         tables::put_binding(bindings, n, binding);
         next.bindings = n + 1;
         at += stride;
-        left -= 1;
     }
-    Walk::Next(next)
+    Ok(next)
 }

@@ -8,13 +8,12 @@ ghost use Rattle.read_types.specs.Walked.{Walked};
 ghost use Rattle.read_tables.specs.Variables.{variable_record_in_chunk, variables_progress, variables_in, up_to_variables, ReadyVariables};
 
 use flags::VariableFlags;
-use read_spec::{Counts, Walk};
+use read_spec::Counts;
 use read_types::Member;
 use reflection::{
-    BAD_NAME, CBufferVariable, DEFAULT_PAST_END, NO_ROOM, RECORD_PAST_END, Refusal,
-    SM5_VARIABLE_STRIDE, TYPE_LEVELS, Text, VARIABLE_STRIDE, in_chunk,
+    CBufferVariable, Refusal, SM5_VARIABLE_STRIDE, TYPE_LEVELS, Text, VARIABLE_STRIDE, in_chunk,
 };
-use text::Found;
+use text::Span;
 
 // How many bytes a variable takes.
 fn variable_stride(sm5: bool) -> usize
@@ -28,7 +27,8 @@ fn variable_stride(sm5: bool) -> usize
 }
 
 // The default of the variable at `at`: offset 0 means empty, any other must lie in the chunk.
-fn default_of(chunk: &[u8], at: usize) -> Found
+#[tactic(auto, using(crate::proofs::Default::default_empty))]
+fn default_of(chunk: &[u8], at: usize) -> Option<Span>
     requires { at ≤ chunk_limit }
     ensures { (result ≡ default_at chunk.now (word_at chunk.now (at + 20)) (word_at chunk.now (at + 8)))
         × FoundWithin (length chunk.now) result }
@@ -36,22 +36,25 @@ fn default_of(chunk: &[u8], at: usize) -> Found
     let offset = words::word_at(chunk, at + 20);
     let size = words::word_at(chunk, at + 8);
     if offset == 0 {
-        return Found::At(0, 0);
+        return Some(Span {
+            place: 0,
+            length: 0,
+        });
     }
-    if words::inside(chunk.len(), offset as usize, size as usize) {
-        Found::At(offset as usize, size as usize)
-    } else {
-        Found::Bad
-    }
+    words::inside(chunk.len(), offset as usize, size as usize).then_some(Span {
+        place: offset as usize,
+        length: size as usize,
+    })
 }
 
 // The variable at `at`, whose name and default are known.
+#[tactic(auto, unfolding(crate::specs::Variables::variable_record_in_chunk))]
 fn variable_record(chunk: &[u8], at: usize, sm5: bool, name: Text, default: Text) -> CBufferVariable
     requires { at ≤ chunk_limit }
     ensures { result ≡ variable_record_in_chunk chunk.now sm5 at name default }
 {
     CBufferVariable {
-        name: name,
+        name,
         offset: words::word_at(chunk, at + 4),
         size: words::word_at(chunk, at + 8),
         flags: VariableFlags(words::word_at(chunk, at + 12)),
@@ -64,6 +67,7 @@ fn variable_record(chunk: &[u8], at: usize, sm5: bool, name: Text, default: Text
 }
 
 // Walks `count` variables, whose records begin at `first`: they, and the nodes of their types, follow those that there are.
+#[tactic(auto, using(words::proofs::Parts::inside_fits))]
 pub fn walk_variables(
     chunk: &[u8],
     first: u32,
@@ -74,7 +78,7 @@ pub fn walk_variables(
     types: &mut [u32],
     path: &mut [u32],
     counts: Counts,
-) -> Walk
+) -> Result<Counts, Refusal>
     requires { ReadyVariables chunk.now capacity counts variables.old types.old path.old }
     ensures { Walked (variables_progress chunk.now sm5 count first) capacity (up_to_variables capacity counts) counts
         (variables_in variables.old types.old) (variables_in variables.new types.new) result }
@@ -86,39 +90,28 @@ pub fn walk_variables(
     let stride = variable_stride(sm5);
     let mut next = counts;
     let mut at = first as usize;
-    let mut left = count;
-    while 0 < left {
+    for _ in 0..count {
         let n = next.variables;
         if capacity.variables <= n {
-            return Walk::Refused(Refusal { number: NO_ROOM });
+            return Err(Refusal::NoRoom);
         }
         if !words::inside(chunk.len(), at, stride) {
-            return Walk::Refused(Refusal {
-                number: RECORD_PAST_END,
-            });
+            return Err(Refusal::RecordPastEnd);
         }
-        let default = default_of(chunk, at);
-        let Found::At(default_place, default_length) = default else {
-            return Walk::Refused(Refusal {
-                number: DEFAULT_PAST_END,
-            });
-        };
+        let default = default_of(chunk, at).ok_or(Refusal::DefaultPastEnd)?;
         let name = words::word_at(chunk, at);
-        let found = text::cstring_at(chunk, name as usize);
-        let Found::At(place, length) = found else {
-            return Walk::Refused(Refusal { number: BAD_NAME });
-        };
+        let found = text::cstring_at(chunk, name as usize).ok_or(Refusal::BadName)?;
         let variable = variable_record(
             chunk,
             at,
             sm5,
-            in_chunk(place as u32, length as u32),
-            in_chunk(default_place as u32, default_length as u32),
+            in_chunk(found.place as u32, found.length as u32),
+            in_chunk(default.place as u32, default.length as u32),
         );
         tables::put_variable(variables, n, variable);
         next.variables = n + 1;
         let below = words::word_at(chunk, at + 16);
-        let answer = read_types::walk_type(
+        next = read_types::walk_type(
             chunk,
             below,
             sm5,
@@ -128,17 +121,8 @@ pub fn walk_variables(
             types,
             path,
             next,
-        );
-        match answer {
-            Walk::Refused(refusal) => {
-                return Walk::Refused(refusal);
-            }
-            Walk::Next(after) => {
-                next = after;
-            }
-        }
+        )?;
         at += stride;
-        left -= 1;
     }
-    Walk::Next(next)
+    Ok(next)
 }

@@ -1,28 +1,27 @@
 -- The loop over the members, with the tables: what is left to read decides the outcome, so each turn leaves the outcome of the whole as it was.
-use mathlib.Core.Path.{◌≡◌, sym, ap, subst, ◌∙◌}
+use Rattle.std.specs.Prelude.{None, Ok, Err, Some}
+use Rattle.reflection.specs.declared.refusal.Refusal.TheVariants.{RecordPastEnd, BadName}
+use Rattle.reflection.specs.declared.refusal.Refusal.{Refusal}
+use mathlib.Core.Path.{◌≡◌, refl, sym, ap, ◌∙◌}
 use mathlib.Core.Bool.{Bool, true, false}
 use mathlib.Core.List.{List}
 use Prim.Native.Nat.{ℕ, ◌+◌, ◌-◌, ◌≤◌, ◌<◌}
+use native.Mathlib.Omega.{arith}
 use lib.ListN.{length, take}
 use Rattle.words.specs.Words.{word_at}
 use Rattle.words.specs.Parts.{inside}
-use Rattle.text.specs.declared.Found.TheVariants.{At, Bad}
+use Rattle.text.specs.Strings.{span}
 use Rattle.text.specs.Strings.{cstring_at}
 use Rattle.reflection.specs.Limits.{type_levels}
 use Rattle.reflection.specs.Strides.{member_stride}
-use Rattle.reflection.specs.Refusals.{record_past_end, bad_name}
 use Rattle.reflection.specs.declared.Text.{Text}
-use Rattle.reflection.specs.declared.Refusal.{Refusal}
-use Rattle.reflection.specs.Outcome.{because}
 use Rattle.reflection.specs.Texts.{in_chunk}
 use Rattle.read_spec.specs.declared.Counts.{Counts}
-use Rattle.read_spec.specs.declared.Walk.{Walk}
-use Rattle.read_spec.specs.declared.Walk.TheVariants.{Next, Refused}
-use Rattle.read_spec.specs.Step.{Room}
+use Rattle.read_spec.specs.Step.{Room, Walk}
 use Rattle.read_types.specs.Progress.{Progress, onward}
 use Rattle.read_types.specs.Walked.{room_left, answered, AllGrew}
-use Rattle.read_types.specs.Walk.{turned, type_progress, members_progress, nodes_in, up_to_types, WalkedType}
-use Rattle.read_types.proofs.Grown.{types_further}
+use Rattle.read_types.specs.Walk.{turned, type_progress, members_progress, nodes_in, up_to_types, ReadyLevels, WalkedType}
+use Rattle.read_types.proofs.Grown.{none_grown, types_further}
 use Rattle.read_types.proofs.Members.{members_none, members_short, members_bad, members_on}
 
 -- The loop's invariant: from n records, and the table and the path at entry (types₀, path₀), the walk came to `next` and these, with `left` members left,
@@ -36,11 +35,23 @@ pub record Going (s : List ℕ) (sm5 : Bool) (first count levels : ℕ) (capacit
   pub types_long : length types ≡ length types₀
   pub path_long : length path ≡ length path₀
 
+-- No member is read yet.
+pub starts : {s : List ℕ} {sm5 : Bool} {first count levels : ℕ} {capacity n : Counts} {types path : List ℕ} {left : ℕ} → ReadyLevels s levels capacity n types path
+    → left ≡ count
+    → Going s sm5 first count levels capacity n types path types path n first left
+starts {s} {sm5} {first} {levels = levels} {capacity} {n} {types} {path} ready all = record {
+  same = ap (λ (k : ℕ). members_progress s sm5 levels (turned (take (type_levels - levels) path)) k first (nodes_in types n) (room_left capacity n)) (sym all);
+  above = refl;
+  grew = none_grown n (omega arith) (omega arith) (omega arith) ready.ready.types_fit.taken;
+  types_long = refl;
+  path_long = refl;
+}
+
 -- The member at `at` is there: its name has k bytes at `place`, its type lies at `below`, and its offset is `offset`.
 pub record MemberAt (s : List ℕ) (at left place k below offset : ℕ) : Type 0 where
   pub more : 0 < left
   pub fits : inside (length s) at member_stride ≡ true
-  pub named : cstring_at s (word_at s at) ≡ At place k
+  pub named : cstring_at s (word_at s at) ≡ Some (span place k)
   pub is_below : below ≡ word_at s (at + 4)
   pub is_offset : offset ≡ word_at s (at + 8)
 
@@ -55,7 +66,7 @@ module _ {s : List ℕ} {sm5 : Bool} {first count levels : ℕ} {capacity n : Co
   abbrev result : List ℕ → List ℕ → Walk → Type 0
   result types' path' r = WalkedType whole levels capacity n types₀ types' path₀ path' r
 
-  pub ends : left ≤ 0 → result types path (Next next)
+  pub ends : left ≤ 0 → result types path (Ok next)
   ends none = record {
     walked = record {
       outcome = g.same ∙ members_none s sm5 levels path_in at (nodes_in types next) (room_left capacity next) left none;
@@ -64,7 +75,7 @@ module _ {s : List ℕ} {sm5 : Bool} {first count levels : ℕ} {capacity n : Co
     above = g.above;
   }
 
-  pub ends_short : 0 < left → inside (length s) at member_stride ≡ false → result types path (Refused (because record_past_end))
+  pub ends_short : 0 < left → inside (length s) at member_stride ≡ false → result types path (Err RecordPastEnd)
   ends_short more short = record {
     walked = record {
       outcome = g.same ∙ members_short s sm5 levels path_in at (nodes_in types next) (room_left capacity next) left more short;
@@ -73,7 +84,7 @@ module _ {s : List ℕ} {sm5 : Bool} {first count levels : ℕ} {capacity n : Co
     above = g.above;
   }
 
-  pub ends_bad : 0 < left → inside (length s) at member_stride ≡ true → cstring_at s (word_at s at) ≡ Bad → result types path (Refused (because bad_name))
+  pub ends_bad : 0 < left → inside (length s) at member_stride ≡ true → cstring_at s (word_at s at) ≡ None → result types path (Err BadName)
   ends_bad more fits bad = record {
     walked = record {
       outcome = g.same ∙ members_bad s sm5 levels path_in at (nodes_in types next) (room_left capacity next) left more fits bad;
@@ -100,18 +111,17 @@ module _ {s : List ℕ} {sm5 : Bool} {first count levels : ℕ} {capacity n : Co
         ∙ (λ i. then (typed (turned (sym g.above i)) (sym m.is_below i) (sym is_name i) (sym m.is_offset i)))
         ∙ ap then w.walked.outcome
 
-    pub ends_below : {types' path' : List ℕ} {r : Walk} {e : Refusal} → r ≡ Refused e → type_walked types' path' r → result types' path' (Refused e)
-    ends_below {types'} {path'} {r} {e} is-refused walked =
-        let w : type_walked types' path' (Refused e) = subst (type_walked types' path') is-refused walked in
-        record { walked = record { outcome = after types' path' (Refused e) w; grew = tt }; above = w.above ∙ g.above }
+    pub ends_below : {types' path' : List ℕ} {e : Refusal} → type_walked types' path' (Err e) → result types' path' (Err e)
+    ends_below {types'} {path'} {e} w =
+        record { walked = record { outcome = after types' path' (Err e) w; grew = tt }; above = w.above ∙ g.above }
 
-    pub goes_on : {types' path' : List ℕ} {r : Walk} {next' : Counts} → r ≡ Next next' → type_walked types' path' r
-        → length types' ≡ length types → length path' ≡ length path
-        → Going s sm5 first count levels capacity n types₀ path₀ types' path' next' (at + member_stride) (left - 1)
-    goes_on {types'} {path'} {r} {next'} is-next walked types_same path-same =
-        let w : type_walked types' path' (Next next') = subst (type_walked types' path') is-next walked in
+    pub goes_on : {types' path' : List ℕ} {next' : Counts} {left' : ℕ} → type_walked types' path' (Ok next')
+        → length types' ≡ length types → length path' ≡ length path → left - 1 ≡ left'
+        → Going s sm5 first count levels capacity n types₀ path₀ types' path' next' (at + member_stride) left'
+    goes_on {types'} {path'} {next'} w types_same path-same one_less =
         record {
-          same = after types' path' (Next next') w;
+          same = after types' path' (Ok next') w
+              ∙ ap (λ (k : ℕ). members_progress s sm5 levels path_in k (at + member_stride) (nodes_in types' next') (room_left capacity next')) one_less;
           above = w.above ∙ g.above;
           grew = types_further capacity g.grew w.walked.grew;
           types_long = types_same ∙ g.types_long;

@@ -3,41 +3,27 @@
 use mathlib.Core.Path.{◌≡◌, refl, sym, ap, ◌∙◌}
 use mathlib.Core.Bool.{Bool, true, false, ◌||◌}
 use mathlib.Core.List.{List, [], ◌∷◌, ◌++◌}
-use Prim.Native.Nat.{ℕ, ◌+◌, ◌≤◌, ◌<◌}
-use native.Mathlib.Numerals.{add-one}
-use native.Mathlib.Omega.{arith}
-use borrow.Author.Tests.{eq-eqb, ne_eqb}
+use Prim.Native.Nat.{ℕ, ◌≤◌}
+use borrow.Author.Tests.{eq-eqb, ne_eqb, eqb-true, eqb-false}
 use lib.Dec.{eqb}
-use lib.ListN.{length, get_or, take, drop, drop_of_length-le}
-use lib.Seq.{drop-cons, take-take, length-take-le, get_or-take}
+use lib.ListN.{take}
+use lib.Seq.{take-take}
+use Rattle.std.specs.List.{list_any}
 use Rattle.read_spec.specs.Read.{on_path}
 use Rattle.read_types.specs.Walk.{turned_onto}
 
--- Looking through the first `depth` offsets of a path, from place i on.
-module _ (path : List ℕ) (depth at i : ℕ) (fits : depth ≤ length path) where
-  long : length (take depth path) ≡ depth
-  long = length-take-le depth path fits
+eqb_turn : (a b : ℕ) → eqb a b ≡ eqb b a
+eqb_turn a b = go (eqb a b) refl
+  where
+    go : (r : Bool) → eqb a b ≡ r → eqb a b ≡ eqb b a
+    go true e = e ∙ sym (eq-eqb b a (sym (eqb-true a b e)))
+    go false e = e ∙ sym (ne_eqb b a (λ q. eqb-false a b e (sym q)))
 
-  pub path_end : depth ≤ i → on_path at (drop i (take depth path)) ≡ false
-  unfolding on_path
-  path_end h =
-      let past : length (take depth path) ≤ i = omega (arith, long) in
-      rw (drop_of_length-le (take depth path) past)
-
-  module _ (h : i < depth) where
-    same : get_or (take depth path) i 0 ≡ get_or path i 0
-    same = get_or-take depth path i 0 h
-
-    inner : i < length (take depth path)
-    inner = omega (arith, long)
-
-    pub path_here : get_or path i 0 ≡ at → on_path at (drop i (take depth path)) ≡ true
-    unfolding on_path
-    path_here e = rw (drop-cons (take depth path) i 0 inner, on_path, eq-eqb at (get_or (take depth path) i 0) (sym (same ∙ e)))
-
-    pub path_more : (get_or path i 0 ≡ at → ⊥) → on_path at (drop i (take depth path)) ≡ on_path at (drop (i + 1) (take depth path))
-    unfolding on_path
-    path_more d = rw (drop-cons (take depth path) i 0 inner, on_path, ne_eqb at (get_or (take depth path) i 0) (λ e. d (sym (e ∙ same))), add-one i)
+-- The slice's own search for an offset among those of a path.
+pub on_path_by_search : (at : ℕ) (path : List ℕ) → list_any (λ x. eqb x at) path ≡ on_path at path
+unfolding on_path
+on_path_by_search at [] = refl
+on_path_by_search at (x ∷ xs) = λ i. eqb_turn x at i || on_path_by_search at xs i
 
 or_turn : (a b c : Bool) → (b || (a || c)) ≡ ((a || b) || c)
 or_turn true true c = refl

@@ -1,5 +1,9 @@
 -- The walk of one type, with the tables: its node is written as node n, its offset goes onto the path, and its members follow one level deeper.
-use mathlib.Core.Path.{◌≡◌, refl, sym, ap, subst, ◌∙◌}
+use Rattle.text.specs.declared.Span.{Span}
+use Rattle.std.specs.Prelude.{Option, None, Ok, Err, Some}
+use Rattle.reflection.specs.declared.refusal.Refusal.TheVariants.{RecordPastEnd, BadName, TypeTooDeep, TypeCycle, NoRoom}
+use Rattle.reflection.specs.declared.refusal.Refusal.{Refusal}
+use mathlib.Core.Path.{◌≡◌, refl, sym, ap, ◌∙◌}
 use mathlib.Core.Bool.{Bool, true, false}
 use mathlib.Core.List.{List, [], ◌∷◌, ◌++◌}
 use Prim.Native.Nat.{ℕ, suc, ◌+◌, ◌*◌, ◌-◌, ◌≤◌, ◌<◌}
@@ -8,27 +12,29 @@ use lib.ListN.{length, take, set}
 use lib.Seq.{take-suc-set, take-set-le}
 use Rattle.words.specs.Words.{word_at, high_at}
 use Rattle.words.specs.Parts.{inside}
-use Rattle.text.specs.declared.Found.{Found}
-use Rattle.text.specs.declared.Found.TheVariants.{At, Bad}
+use Rattle.std.specs.Option.{is_some}
 use Rattle.reflection.specs.Limits.{type_levels}
-use Rattle.reflection.specs.Refusals.{record_past_end, bad_name, type_too_deep, type_cycle, no_room}
-use Rattle.reflection.specs.declared.Refusal.{Refusal}
 use Rattle.reflection.specs.declared.Text.{Text}
-use Rattle.reflection.specs.Outcome.{because}
 use Rattle.tables.specs.Records.{type_words_in_table, type_width, put_record}
 use Rattle.tables.specs.Tables.{type_record}
 use Rattle.read_spec.specs.declared.Counts.{Counts}
-use Rattle.read_spec.specs.declared.Walk.{Walk}
-use Rattle.read_spec.specs.declared.Walk.TheVariants.{Next, Refused}
-use Rattle.read_spec.specs.Step.{Room, room}
+use Rattle.read_spec.specs.Step.{Room, room, Walk}
 use Rattle.read_spec.specs.Read.{on_path, type_stride, type_name_at}
-use Rattle.read_types.specs.Progress.{Progress, stopped}
+use Rattle.read_types.specs.Progress.{Progress, stopped, reached}
 use Rattle.read_types.specs.Walked.{room_left, answered, AllGrew}
 use Rattle.read_types.specs.Walk.{node_from_chunk, turned, type_progress, members_progress, nodes_in, up_to_types, ReadyLevels, WalkedType}
 use Rattle.read_types.proofs.Grown.{types_further}
 use Rattle.read_types.proofs.Path.{on_turned, turned_longer, take_less}
 use Rattle.read_types.proofs.Table.{node_appended}
 use Rattle.read_types.proofs.Types.{unless_bad, type_deep, type_cycle_lem, type_full, type_short, type_in}
+
+is_stopped : (name : Option Span) → is_some name ≡ false → (w : List ℕ) (r : Room) → unless_bad name (reached w r) ≡ stopped BadName
+is_stopped (Some found) bad w r = cc
+is_stopped None bad w r = refl
+
+is_reached : (name : Option Span) → is_some name ≡ true → (w : List ℕ) (r : Room) → unless_bad name (reached w r) ≡ reached w r
+is_reached (Some found) named w r = refl
+is_reached None named w r = cc
 
 -- One node more.
 abbrev pub with_node : Counts → Counts
@@ -54,25 +60,25 @@ module _ {s : List ℕ} {levels : ℕ} {capacity n : Counts} {types path : List 
       type_progress s sm5 levels (turned path_in) at mn mo (nodes_in types n)
       (room (capacity.bindings - n.bindings) (capacity.buffers - n.buffers) (capacity.variables - n.variables) t)
 
-  abbrev refuses : ℕ → Type 0
-  refuses e = WalkedType (type_progress s sm5 levels (turned path_in) at mn mo) levels capacity n types types path path (Refused (because e))
+  abbrev refuses : Refusal → Type 0
+  refuses e = WalkedType (type_progress s sm5 levels (turned path_in) at mn mo) levels capacity n types types path path (Err e)
 
-  refused : {e t : ℕ} → capacity.types - n.types ≡ t → read t ≡ stopped (because e) → refuses e
+  refused : {e : Refusal} {t : ℕ} → capacity.types - n.types ≡ t → read t ≡ stopped e → refuses e
   refused room-is outcome = record { walked = record { outcome = ap read room-is ∙ outcome; grew = tt }; above = refl }
 
-  pub stops_deep : levels ≡ 0 → refuses type_too_deep
+  pub stops_deep : levels ≡ 0 → refuses TypeTooDeep
   stops_deep deep = refused refl (type_deep s sm5 (turned path_in) at mn mo (nodes_in types n) _ _ _ _ levels deep)
 
   module _ (level : levels ≡ 0 → ⊥) where
-    pub stops_cycle : on_path at path_in ≡ true → refuses type_cycle
+    pub stops_cycle : on_path at path_in ≡ true → refuses TypeCycle
     stops_cycle cycle = refused refl (type_cycle_lem s sm5 (turned path_in) at mn mo (nodes_in types n) _ _ _ _ levels level (on_turned at path_in ∙ cycle))
 
     module _ (fresh : on_path at path_in ≡ false) where
-      pub stops_full : capacity.types ≤ n.types → refuses no_room
+      pub stops_full : capacity.types ≤ n.types → refuses NoRoom
       stops_full full =
           refused {t = 0} (omega arith) (type_full s sm5 (turned path_in) at mn mo (nodes_in types n) _ _ _ levels level (on_turned at path_in ∙ fresh))
 
-      pub stops_short : n.types < capacity.types → inside (length s) at (type_stride sm5) ≡ false → refuses record_past_end
+      pub stops_short : n.types < capacity.types → inside (length s) at (type_stride sm5) ≡ false → refuses RecordPastEnd
       stops_short free short =
           refused {t = suc (capacity.types - (n.types + 1))} (omega arith)
           (type_short s sm5 (turned path_in) at mn mo (nodes_in types n) _ _ _ _ levels level (on_turned at path_in ∙ fresh) short)
@@ -143,30 +149,27 @@ module _ {s : List ℕ} {sm5 : Bool} {at : ℕ} {mn : Text} {mo levels : ℕ} {c
   abbrev result : List ℕ → List ℕ → Walk → Type 0
   result types₂ path₂ r = WalkedType whole levels capacity n types types₂ path path₂ r
 
-  module _ {types₂ path₂ : List ℕ} {r : Walk} where
-    pub stops_inside : {x : Refusal} → r ≡ Refused x → members_walked types₂ path₂ r → result types₂ path₂ (Refused x)
-    stops_inside {x} is-refused walked =
-        let w : members_walked types₂ path₂ (Refused x) = subst (members_walked types₂ path₂) is-refused walked in
-        record { walked = record { outcome = after types₂ path₂ (Refused x) w; grew = tt }; above = path_kept path₂ w.above }
+  module _ {types₂ path₂ : List ℕ} where
+    pub stops_inside : {x : Refusal} → members_walked types₂ path₂ (Err x) → result types₂ path₂ (Err x)
+    stops_inside {x} w =
+        record { walked = record { outcome = after types₂ path₂ (Err x) w; grew = tt }; above = path_kept path₂ w.above }
 
-    pub stops_unnamed : {m : Counts} → r ≡ Next m → members_walked types₂ path₂ r → type_name_at s sm5 at ≡ Bad → result types₂ path₂ (Refused (because bad_name))
-    stops_unnamed {m} is-next walked bad =
-        let w : members_walked types₂ path₂ (Next m) = subst (members_walked types₂ path₂) is-next walked in
+    pub stops_unnamed : {m : Counts} → members_walked types₂ path₂ (Ok m) → is_some (type_name_at s sm5 at) ≡ false → result types₂ path₂ (Err BadName)
+    stops_unnamed {m} w bad =
         record {
           walked = record {
-            outcome = after types₂ path₂ (Next m) w ∙ ap (λ (name : Found). unless_bad name (answered capacity (nodes_in types₂) (Next m))) bad;
+            outcome = after types₂ path₂ (Ok m) w ∙ is_stopped (type_name_at s sm5 at) bad (nodes_in types₂ m) (room_left capacity m);
             grew = tt;
           };
           above = path_kept path₂ w.above;
         }
 
-    pub arrives : {m : Counts} {place k : ℕ} → r ≡ Next m → members_walked types₂ path₂ r → type_name_at s sm5 at ≡ At place k → result types₂ path₂ (Next m)
-    arrives {m} is-next walked named =
-        let w : members_walked types₂ path₂ (Next m) = subst (members_walked types₂ path₂) is-next walked in
+    pub arrives : {m : Counts} → members_walked types₂ path₂ (Ok m) → is_some (type_name_at s sm5 at) ≡ true → result types₂ path₂ (Ok m)
+    arrives {m} w named =
         let own : AllGrew (up_to_types capacity n) n (with_node n) = one_grown capacity n (omega (arith, e.free)) in
         record {
           walked = record {
-            outcome = after types₂ path₂ (Next m) w ∙ ap (λ (name : Found). unless_bad name (answered capacity (nodes_in types₂) (Next m))) named;
+            outcome = after types₂ path₂ (Ok m) w ∙ is_reached (type_name_at s sm5 at) named (nodes_in types₂ m) (room_left capacity m);
             grew = types_further capacity own w.walked.grew;
           };
           above = path_kept path₂ w.above;

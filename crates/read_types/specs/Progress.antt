@@ -1,9 +1,9 @@
 -- Vocabulary of internal contracts: no contract of an exported function and no demand cites it.
 -- How far a walk came, in words of the tables: what the contracts of the walks say. Each is made from the definition of reading and a function
 -- that appends what was read; there is no second definition of the walk.
-use Rattle.std.specs.Prelude.{List, [], ◌∷◌, ℕ}
-use Rattle.reflection.specs.declared.Refusal.{Refusal}
-use Rattle.reflection.specs.Outcome.{Outcome, ok, refused}
+use Rattle.reflection.specs.Outcome.{Outcome}
+use Rattle.reflection.specs.declared.refusal.Refusal.{Refusal}
+use Rattle.std.specs.Prelude.{List, [], ◌∷◌, ℕ, Ok, Err}
 use Rattle.read_spec.specs.Step.{Room, ReadStep}
 use Rattle.read_spec.specs.Read.{read_many}
 
@@ -14,8 +14,8 @@ pub data Progress (S : Type 0) : Type 0 where
 
 -- What a reading appends to the words s.
 abbrev pub progress : {A S : Type 0} → (A → S → S) → Outcome (A × Room) → S → Progress S
-progress append (ok p) s = reached (append p.0 s) p.1
-progress append (refused e) s = stopped e
+progress append (Ok p) s = reached (append p.0 s) p.1
+progress append (Err e) s = stopped e
 
 abbrev pub onward : {S S₁ : Type 0} → (S → Room → Progress S₁) → Progress S → Progress S₁
 onward f (stopped e) = stopped e

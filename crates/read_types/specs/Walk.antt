@@ -1,9 +1,8 @@
 -- Vocabulary of internal contracts: no contract of an exported function and no demand cites it.
 -- The walk of a type: what it is given, and what it leaves.
-use Rattle.std.specs.Prelude.{◌≡◌, Bool, List, [], ◌∷◌, ◌++◌, ℕ, ◌+◌, ◌*◌, ◌-◌, ◌≤◌, length, take}
+use Rattle.text.specs.declared.Span.{Span}
+use Rattle.std.specs.Prelude.{◌≡◌, Bool, List, [], ◌∷◌, ◌++◌, ℕ, ◌+◌, ◌*◌, ◌-◌, ◌≤◌, length, take, Option, None, Some}
 use Rattle.words.specs.Words.{high_at}
-use Rattle.text.specs.declared.Found.{Found}
-use Rattle.text.specs.declared.Found.TheVariants.{At, Bad}
 use Rattle.reflection.specs.Limits.{chunk_limit, type_width, type_levels}
 use Rattle.reflection.specs.declared.Text.{Text}
 use Rattle.reflection.specs.Reflection.{TypeDesc, type_desc, Members, no_member, member, member_count}
@@ -11,10 +10,9 @@ use Rattle.reflection.specs.Texts.{in_chunk}
 use Rattle.tables.specs.Nodes.{Node}
 use Rattle.tables.specs.Records.{type_words_in_table}
 use Rattle.tables.specs.Tables.{type_record}
-use Rattle.read_spec.specs.Step.{Room}
+use Rattle.read_spec.specs.Step.{Room, Walk}
 use Rattle.read_spec.specs.Read.{read_type, read_members, numbers_from, type_name_at}
 use Rattle.read_spec.specs.declared.Counts.{Counts}
-use Rattle.read_spec.specs.declared.Walk.{Walk}
 use Rattle.read_types.specs.Progress.{Progress, progress}
 use Rattle.read_types.specs.Walked.{HasRoom, Walked}
 
@@ -35,9 +33,9 @@ unfoldable mutual
   append_members (member n o t ms) w = append_members ms (append_type n o t w)
 
 -- Where a text was found; at place 0 and empty where it is bad.
-abbrev pub found_text : Found → Text
-found_text (At place n) = in_chunk place n
-found_text Bad = in_chunk 0 0
+abbrev pub found_text : Option Span → Text
+found_text (Some found) = in_chunk found.place found.length
+found_text None = in_chunk 0 0
 
 -- The node of the type at an offset, which a member's name and offset lead to.
 unfoldable pub node_from_chunk : List ℕ → Bool → ℕ → Text → ℕ → Node Text

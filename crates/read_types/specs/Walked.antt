@@ -1,10 +1,8 @@
 -- Vocabulary of internal contracts: no contract of an exported function and no demand cites it.
 -- What every walk is given and leaves, whichever tables it fills.
-use Rattle.std.specs.Prelude.{◌≡◌, List, ℕ, ◌-◌, ◌/◌, ◌≤◌, length}
+use Rattle.std.specs.Prelude.{◌≡◌, List, ℕ, ◌-◌, ◌/◌, ◌≤◌, length, Ok, Err}
 use Rattle.read_spec.specs.declared.Counts.{Counts}
-use Rattle.read_spec.specs.declared.Walk.{Walk}
-use Rattle.read_spec.specs.declared.Walk.TheVariants.{Next, Refused}
-use Rattle.read_spec.specs.Step.{Room, room}
+use Rattle.read_spec.specs.Step.{Room, room, Walk}
 use Rattle.read_types.specs.Progress.{Progress, stopped, reached}
 
 -- The room left, where the tables can take `capacity` records and have n.
@@ -31,12 +29,12 @@ pub record AllGrew (most n m : Counts) : Type 0 where
 
 -- The progress that an answer stands for, where `written` says what so many records of the tables hold.
 abbrev pub answered : {S : Type 0} → Counts → (Counts → S) → Walk → Progress S
-answered capacity written (Next m) = reached (written m) (room_left capacity m)
-answered capacity written (Refused e) = stopped e
+answered capacity written (Ok m) = reached (written m) (room_left capacity m)
+answered capacity written (Err e) = stopped e
 
 abbrev pub GrewTo : Counts → Counts → Walk → Type 0
-GrewTo most n (Next m) = AllGrew most n m
-GrewTo most n (Refused e) = Unit
+GrewTo most n (Ok m) = AllGrew most n m
+GrewTo most n (Err e) = Unit
 
 -- What a walk leaves: from n records of its tables as they were before, the progress `out`, in its tables as they are after; at most `most` records.
 pub record Walked {S : Type 0} (out : S → Room → Progress S) (capacity most n : Counts) (before after : Counts → S) (r : Walk) : Type 0 where

@@ -1,8 +1,8 @@
 -- Tests of options and of lists: how they go through each step of a definition. Each law is by cases.
+use Rattle.std.specs.Prelude.{Option, None, Some}
 use mathlib.Core.Path.{◌≡◌, refl, sym, ap, ◌∙◌}
 use mathlib.Core.Bool.{Bool, true, false, ◌&&◌, ◌||◌, and_assoc, and_comm}
 use mathlib.Core.List.{List, [], ◌∷◌, ◌++◌, map}
-use mathlib.Core.Option.{Option, none, some}
 use Rattle.tables.specs.Nodes.{◌>>=◌}
 use Rattle.tables.specs.Decode.{guard}
 use Rattle.readable.specs.Readable.{every}
@@ -23,42 +23,42 @@ module _ {A : Type 0} where
   holds_check k false f = refl
 
   pub holds_and : (b : Bool) (k : A → Bool) (m : Option A) → passes (λ a. b && k a) m ≡ (b && passes k m)
-  holds_and true k none = refl
-  holds_and false k none = refl
-  holds_and b k (some a) = refl
+  holds_and true k None = refl
+  holds_and false k None = refl
+  holds_and b k (Some a) = refl
 
-  pub holds_same : (k l : A → Bool) (m : Option A) → ((a : A) → m ≡ some a → k a ≡ l a) → passes k m ≡ passes l m
-  holds_same k l none e = refl
-  holds_same k l (some a) e = e a refl
+  pub holds_same : (k l : A → Bool) (m : Option A) → ((a : A) → m ≡ Some a → k a ≡ l a) → passes k m ≡ passes l m
+  holds_same k l None e = refl
+  holds_same k l (Some a) e = e a refl
 
 module _ {A B : Type 0} where
   pub holds_then : (k : B → Bool) (m : Option A) (f : A → Option B) → passes k (m >>= f) ≡ passes (λ a. passes k (f a)) m
   unfolding ◌>>=◌
-  holds_then k none f = refl
-  holds_then k (some a) f = refl
+  holds_then k None f = refl
+  holds_then k (Some a) f = refl
 
-  pub then_same : (m : Option A) (f g : A → Option B) → ((a : A) → m ≡ some a → f a ≡ g a) → (m >>= f) ≡ (m >>= g)
+  pub then_same : (m : Option A) (f g : A → Option B) → ((a : A) → m ≡ Some a → f a ≡ g a) → (m >>= f) ≡ (m >>= g)
   unfolding ◌>>=◌
-  then_same none f g e = refl
-  then_same (some a) f g e = e a refl
+  then_same None f g e = refl
+  then_same (Some a) f g e = e a refl
 
 -- A test that holds whatever step gives something, and its test.
 pub check_first : {A B : Type 0} (b : Bool) (m : Option A) (k : A → Bool) (g : A → B)
-    → (guard b >>= λ _. (m >>= λ a. guard (k a) >>= λ _. some (g a))) ≡ (m >>= λ a. guard (b && k a) >>= λ _. some (g a))
+    → (guard b >>= λ _. (m >>= λ a. guard (k a) >>= λ _. Some (g a))) ≡ (m >>= λ a. guard (b && k a) >>= λ _. Some (g a))
 unfolding guard ◌>>=◌
 check_first true m k g = refl
-check_first false none k g = refl
-check_first false (some a) k g = refl
+check_first false None k g = refl
+check_first false (Some a) k g = refl
 
-pub check_then : {A B : Type 0} (b : Bool) (a : A) (f : A → Option B) → ((guard b >>= λ _. some a) >>= f) ≡ (guard b >>= λ _. f a)
+pub check_then : {A B : Type 0} (b : Bool) (a : A) (f : A → Option B) → ((guard b >>= λ _. Some a) >>= f) ≡ (guard b >>= λ _. f a)
 unfolding guard ◌>>=◌
 check_then true a f = refl
 check_then false a f = refl
 
-pub some_then : {A B C : Type 0} (m : Option A) (g : A → B) (f : B → Option C) → ((m >>= λ a. some (g a)) >>= f) ≡ (m >>= λ a. f (g a))
+pub some_then : {A B C : Type 0} (m : Option A) (g : A → B) (f : B → Option C) → ((m >>= λ a. Some (g a)) >>= f) ≡ (m >>= λ a. f (g a))
 unfolding ◌>>=◌
-some_then none g f = refl
-some_then (some a) g f = refl
+some_then None g f = refl
+some_then (Some a) g f = refl
 
 module _ {A : Type 0} (test : A → Bool) where
   pub every_append : (xs ys : List A) → every test (xs ++ ys) ≡ (every test xs && every test ys)
@@ -75,19 +75,3 @@ module _ {A : Type 0} (test : A → Bool) where
   unfolding every
   every_both other [] = refl
   every_both other (x ∷ xs) = rw (← (every_both other xs)) (simp tests-in-order)
-
--- A conjunction or a disjunction whose parts are known.
-pub both_are : {r a b a' b' : Bool} → r ≡ (a && b) → a ≡ a' → b ≡ b' → r ≡ (a' && b')
-both_are e p q = e ∙ (λ i. p i && q i)
-
-pub either_are : {r a b a' b' : Bool} → r ≡ (a || b) → a ≡ a' → b ≡ b' → r ≡ (a' || b')
-either_are e p q = e ∙ (λ i. p i || q i)
-
-pub both_fails : (a b : Bool) → a ≡ false → (a && b) ≡ false
-both_fails a b e = ap (λ x. x && b) e
-
-pub both_goes_on : (a b : Bool) → a ≡ true → (a && b) ≡ b
-both_goes_on a b e = ap (λ x. x && b) e
-
-pub either_is : {r b b' : Bool} (a : Bool) → r ≡ (a || b) → b ≡ b' → r ≡ (a || b')
-either_is a e q = e ∙ ap (λ x. a || x) q

@@ -1,7 +1,7 @@
 -- What decoding builds has as many nodes, variables and buffers as there were records, since it uses each record once; and the names stay what they were.
+use Rattle.std.specs.Prelude.{Some}
 use mathlib.Core.Path.{◌≡◌, refl, sym, ap, ◌∙◌}
 use mathlib.Core.List.{List, [], ◌∷◌, ◌++◌, map, map-append}
-use mathlib.Core.Option.{some}
 use Prim.Native.Nat.{ℕ, zero, suc, ◌+◌}
 use native.Mathlib.Omega.{arith}
 use lib.Dec.{leb}
@@ -9,7 +9,8 @@ use lib.ListN.{length, take, drop, length-append, take-append-drop}
 use Rattle.reflection.specs.declared.Text.{Text}
 use Rattle.reflection.specs.declared.CBufferDef.{CBufferDef as BufferRecord}
 use Rattle.reflection.specs.declared.CBufferVariable.{CBufferVariable as VariableRecord}
-use Rattle.reflection.specs.Reflection.{TypeDesc, type_desc, Members, no_member, member, CBufferVariable, CBufferDef, map_type, map_members, map_variable, map_buffer}
+use Rattle.reflection.specs.Reflection.{TypeDesc, type_desc, Members, no_member, member, CBufferVariable, CBufferDef, map_type, map_members}
+use Rattle.reflection.specs.Reflection.{map_variable, map_buffer}
 use Rattle.tables.specs.Nodes.{Node, Built, nodes_of, nodes_of_members, members_from_nodes, type_from_nodes, type_levels}
 use Rattle.reflection.specs.Reflection.{all_variables}
 use Rattle.tables.specs.Decode.{variable_from_table, buffer_from_table, variables_from, buffers_from}
@@ -24,19 +25,19 @@ module _ {N : Type 0} where
   abbrev after_type : N → ℕ → Built N → ℕ
   after_type n o t = length (nodes_of n o t.type) + length t.left
 
-  no_member_lem : (xs : List (Node N)) (ms : Members N × List (Node N)) → some (no_member, xs) ≡ some ms → length xs ≡ after_members ms
+  no_member_lem : (xs : List (Node N)) (ms : Members N × List (Node N)) → Some (no_member, xs) ≡ Some ms → length xs ≡ after_members ms
   unfolding nodes_of_members
   no_member_lem xs ms e = let same : (no_member, xs) ≡ ms = cc in omega (arith, ap after_members same)
 
   one_member : (mn : N) (mo : ℕ) (t : TypeDesc N) (long left : ℕ) (others ms : Members N × List (Node N))
-      → some (member mn mo t others.0, others.1) ≡ some ms → long ≡ length (nodes_of mn mo t) + left → left ≡ after_members others → long ≡ after_members ms
+      → Some (member mn mo t others.0, others.1) ≡ Some ms → long ≡ length (nodes_of mn mo t) + left → left ≡ after_members others → long ≡ after_members ms
   unfolding nodes_of_members
   one_member mn mo t long left others ms e own rest =
       let same : (member mn mo t others.0, others.1) ≡ ms = cc in
       omega (arith, ap after_members same, length-append (nodes_of mn mo t) (nodes_of_members others.0))
 
-  members_used : (levels : ℕ) → ((n : N) (o : ℕ) (xs : List (Node N)) (t : Built N) → type_from_nodes levels xs ≡ some t → length xs ≡ after_type n o t)
-      → (n : ℕ) (xs : List (Node N)) (ms : Members N × List (Node N)) → members_from_nodes (type_from_nodes levels) n xs ≡ some ms → length xs ≡ after_members ms
+  members_used : (levels : ℕ) → ((n : N) (o : ℕ) (xs : List (Node N)) (t : Built N) → type_from_nodes levels xs ≡ Some t → length xs ≡ after_type n o t)
+      → (n : ℕ) (xs : List (Node N)) (ms : Members N × List (Node N)) → members_from_nodes (type_from_nodes levels) n xs ≡ Some ms → length xs ≡ after_members ms
   unfolding members_from_nodes
   members_used levels used zero xs ms e = no_member_lem xs ms e
   members_used levels used (suc n) xs ms e =
@@ -47,14 +48,14 @@ module _ {N : Type 0} where
       (used t.member_name t.member_offset xs t first.1) (members_used levels used n t.left others.0 others.1)
 
   one_type : (n : N) (o : ℕ) (x : Node N) (long : ℕ) (ms : Members N × List (Node N)) (t : Built N)
-      → some (record { type = type_desc x.numbers x.name ms.0; member_name = x.member_name; member_offset = x.member_offset; left = ms.1 }) ≡ some t
+      → Some (record { type = type_desc x.numbers x.name ms.0; member_name = x.member_name; member_offset = x.member_offset; left = ms.1 }) ≡ Some t
       → long ≡ after_members ms → suc long ≡ after_type n o t
   unfolding nodes_of
   one_type n o x long ms t e rest =
       let same : _ ≡ t = some_was e in
       omega (arith, ap (after_type n o) same)
 
-  pub type_used : (levels : ℕ) (n : N) (o : ℕ) (xs : List (Node N)) (t : Built N) → type_from_nodes levels xs ≡ some t → length xs ≡ after_type n o t
+  pub type_used : (levels : ℕ) (n : N) (o : ℕ) (xs : List (Node N)) (t : Built N) → type_from_nodes levels xs ≡ Some t → length xs ≡ after_type n o t
   unfolding type_from_nodes
   type_used zero n o xs t e = absurd (let apart : ◌≡◌ {A = ℕ} 0 1 = cc in omega arith)
   type_used (suc levels) n o [] t e = absurd (let apart : ◌≡◌ {A = ℕ} 0 1 = cc in omega arith)
@@ -67,18 +68,18 @@ pub record AllUsed (vs : List VariableRecord) (xs : List (Node Text)) (typed : L
   pub variables : length typed ≡ length vs
   pub nodes : node_count typed ≡ length xs
 
-no_variable : (typed : List (CBufferVariable Text Text)) → some [] ≡ some typed → AllUsed [] [] typed
+no_variable : (typed : List (CBufferVariable Text Text)) → Some [] ≡ Some typed → AllUsed [] [] typed
 unfolding node_count
 no_variable typed e = let same : [] ≡ typed = cc in record { variables = ap length (sym same); nodes = ap node_count (sym same) }
 
 one_variable : (v : VariableRecord) (t : Built Text) (vs : List VariableRecord) (xs : List (Node Text)) (others typed : List (CBufferVariable Text Text))
-    → some (variable_from_table v t.type ∷ others) ≡ some typed → length xs ≡ after_type v.name 0 t → AllUsed vs t.left others → AllUsed (v ∷ vs) xs typed
+    → Some (variable_from_table v t.type ∷ others) ≡ Some typed → length xs ≡ after_type v.name 0 t → AllUsed vs t.left others → AllUsed (v ∷ vs) xs typed
 unfolding node_count variable_from_table
 one_variable v t vs xs others typed e own rest =
     let same : variable_from_table v t.type ∷ others ≡ typed = cc in
     record { variables = omega (arith, ap length same, rest.variables); nodes = omega (arith, ap node_count same, rest.nodes) }
 
-pub variables_used : (vs : List VariableRecord) (xs : List (Node Text)) (typed : List (CBufferVariable Text Text)) → variables_from vs xs ≡ some typed
+pub variables_used : (vs : List VariableRecord) (xs : List (Node Text)) (typed : List (CBufferVariable Text Text)) → variables_from vs xs ≡ Some typed
     → AllUsed vs xs typed
 unfolding variables_from
 variables_used [] [] typed e = no_variable typed e
@@ -95,12 +96,12 @@ pub record AllTaken (cs : List BufferRecord) (vs : List (CBufferVariable Text Te
   pub buffers : length bs ≡ length cs
   pub variables : all_variables bs ≡ vs
 
-no_buffer : (bs : List (CBufferDef Text Text)) → some [] ≡ some bs → AllTaken [] [] bs
+no_buffer : (bs : List (CBufferDef Text Text)) → Some [] ≡ Some bs → AllTaken [] [] bs
 unfolding all_variables
 no_buffer bs e = let same : [] ≡ bs = cc in record { buffers = ap length (sym same); variables = ap all_variables (sym same) }
 
 one_buffer_lem : (c : BufferRecord) (cs : List BufferRecord) (vs : List (CBufferVariable Text Text)) (others bs : List (CBufferDef Text Text))
-    → some (buffer_from_table c (take c.variable_count vs) ∷ others) ≡ some bs → AllTaken cs (drop c.variable_count vs) others → AllTaken (c ∷ cs) vs bs
+    → Some (buffer_from_table c (take c.variable_count vs) ∷ others) ≡ Some bs → AllTaken cs (drop c.variable_count vs) others → AllTaken (c ∷ cs) vs bs
 unfolding all_variables buffer_from_table
 one_buffer_lem c cs vs others bs e rest =
     let same : buffer_from_table c (take c.variable_count vs) ∷ others ≡ bs = cc in
@@ -109,7 +110,7 @@ one_buffer_lem c cs vs others bs e rest =
       variables = ap all_variables (sym same) ∙ ap (λ ws. take c.variable_count vs ++ ws) rest.variables ∙ take-append-drop c.variable_count vs;
     }
 
-pub buffers_taken : (cs : List BufferRecord) (vs : List (CBufferVariable Text Text)) (bs : List (CBufferDef Text Text)) → buffers_from cs vs ≡ some bs
+pub buffers_taken : (cs : List BufferRecord) (vs : List (CBufferVariable Text Text)) (bs : List (CBufferDef Text Text)) → buffers_from cs vs ≡ Some bs
     → AllTaken cs vs bs
 unfolding buffers_from
 buffers_taken [] [] bs e = no_buffer bs e

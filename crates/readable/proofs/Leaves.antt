@@ -1,21 +1,24 @@
 -- What holds of a step's result and of the room that it leaves: each law is one case of the step's definition, and a step after another takes what is left.
+use Rattle.reflection.specs.Outcome.{Outcome}
+use Rattle.reflection.specs.declared.refusal.Refusal.{Refusal}
+use Rattle.text.specs.declared.Span.{Span}
+use Rattle.std.specs.Prelude.{Option, None, Ok, Err, Some}
 use mathlib.Core.Path.{◌≡◌, refl, subst}
 use mathlib.Core.Bool.{Bool, true, false}
 use mathlib.Core.List.{List, [], ◌∷◌}
 use Prim.Native.Nat.{ℕ, zero, suc, ◌+◌}
 use native.Mathlib.Omega.{arith}
-use Rattle.text.specs.declared.Found.{Found}
-use Rattle.text.specs.declared.Found.TheVariants.{At, Bad}
+use Rattle.text.specs.Strings.{span}
 use Rattle.reflection.specs.declared.Text.{Text}
-use Rattle.reflection.specs.Outcome.{Outcome, ok, refused}
 use Rattle.reflection.specs.Texts.{in_chunk}
-use Rattle.read_spec.specs.Step.{Room, room, ReadStep, and_then, one_less, ◌>>=◌, return, refuse, check, text_or, take_binding, take_buffer, take_variable, take_type}
+use Rattle.read_spec.specs.Step.{Room, room, ReadStep, and_then, one_less, ◌>>=◌, return, refuse, check, text_or, take_binding, take_buffer}
+use Rattle.read_spec.specs.Step.{take_variable, take_type}
 use Rattle.read_spec.specs.Read.{read_many, without_room}
 
 -- What holds of a result and the room left; of a refusal nothing.
 abbrev pub Leaves : {A : Type 0} → (A → Room → Type 0) → Outcome (A × Room) → Type 0
-Leaves P (ok z) = P z.0 z.1
-Leaves P (refused e) = Unit {0}
+Leaves P (Ok z) = P z.0 z.1
+Leaves P (Err e) = Unit {0}
 
 -- From the first room to the second so many records of each table were taken.
 pub record Spent (b f v t : ℕ) (r r' : Room) : Type 0 where
@@ -33,20 +36,20 @@ unfolding ◌>>=◌
 then_leaves {A} {B} Q P m f r h g = go (m r) h
   where
     go : (y : Outcome (A × Room)) → Leaves Q y → Leaves P (and_then y f)
-    go (ok z) q = g z.0 z.1 q
-    go (refused e) q = tt
+    go (Ok z) q = g z.0 z.1 q
+    go (Err e) q = tt
 
 module _ {B : Type 0} (P : B → Room → Type 0) where
-  pub check_leaves : (test : Bool) (n : ℕ) (f : Unit {0} → ReadStep B) (r : Room) → (test ≡ true → Leaves P (f tt r)) → Leaves P ((check test n >>= f) r)
+  pub check_leaves : (test : Bool) (n : Refusal) (f : Unit {0} → ReadStep B) (r : Room) → (test ≡ true → Leaves P (f tt r)) → Leaves P ((check test n >>= f) r)
   unfolding check ◌>>=◌ return refuse
   check_leaves true n f r h = h refl
   check_leaves false n f r h = tt
 
-  pub text_leaves : (n : ℕ) (x : Found) (f : Text → ReadStep B) (r : Room) → ((place k : ℕ) → x ≡ At place k → Leaves P (f (in_chunk place k) r))
+  pub text_leaves : (n : Refusal) (x : Option Span) (f : Text → ReadStep B) (r : Room) → ((place k : ℕ) → x ≡ Some (span place k) → Leaves P (f (in_chunk place k) r))
       → Leaves P ((text_or n x >>= f) r)
   unfolding text_or ◌>>=◌ return refuse
-  text_leaves n (At place k) f r h = h place k refl
-  text_leaves n Bad f r h = tt
+  text_leaves n (Some w) f r h = h w.place w.length refl
+  text_leaves n None f r h = tt
 
   module _ (f : Unit {0} → ReadStep B) (r : Room) where
     pub binding_leaves : ((r' : Room) → Spent 1 0 0 0 r r' → Leaves P (f tt r')) → Leaves P ((take_binding >>= f) r)
@@ -94,6 +97,6 @@ many_leaves Q P none more read h stride (suc n) at r =
     (λ xs r'' p. more x xs r r' r'' q p))
 
 -- What was read.
-pub value_left : {A : Type 0} (P : A → Room → Type 0) (x : Outcome (A × Room)) (a : A) → Leaves P x → without_room x ≡ ok a → (r : Room) × P a r
-value_left P (ok z) a p e = let same : z.0 ≡ a = cc in (z.1, subst (λ y. P y z.1) same p)
-value_left P (refused q) a p e = absurd (let apart : ◌≡◌ {A = ℕ} 0 1 = cc in omega arith)
+pub value_left : {A : Type 0} (P : A → Room → Type 0) (x : Outcome (A × Room)) (a : A) → Leaves P x → without_room x ≡ Ok a → (r : Room) × P a r
+value_left P (Ok z) a p e = let same : z.0 ≡ a = cc in (z.1, subst (λ y. P y z.1) same p)
+value_left P (Err q) a p e = absurd (let apart : ◌≡◌ {A = ℕ} 0 1 = cc in omega arith)

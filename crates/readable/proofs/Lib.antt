@@ -3,7 +3,6 @@ pub mod TypeTests
 pub mod Counts
 pub mod Parts
 pub mod Split
-pub mod Answers
 pub mod HeaderTests
 pub mod RecordTests
 pub mod WalkTests

@@ -1,9 +1,9 @@
 -- The tests of a reflection's contents are tests of its records, part by part: a text is looked at in its buffer and by its bytes where its record is, and
 -- other names leave the counts. By induction on each table's records.
+use Rattle.std.specs.Prelude.{Option, Some}
 use mathlib.Core.Path.{◌≡◌, refl, sym, ap, ◌∙◌}
 use mathlib.Core.Bool.{Bool, true, false, ◌&&◌, ◌||◌, and-true, and_assoc}
 use mathlib.Core.List.{List, [], ◌∷◌, ◌++◌, map}
-use mathlib.Core.Option.{Option, some}
 use lib.Dec.{eqb, leb, eqb-suc-zero}
 use lib.ListN.{length, drop, length-map, length-drop}
 use Rattle.reflection.specs.Limits.{binding_room, buffer_room, variable_room, type_room}
@@ -75,8 +75,8 @@ module _ (chunk edits : Bytes) where
     one_variable : (v : VariableRecord) (t : TypeDesc Text) (left : List (Node Text)) (others : Option (List (CBufferVariable Text Text)))
         (rest : List (Node Text) → Bool)
         → passes (every typed_held) others ≡ rest left
-        → passes (every typed_held) (others >>= λ typed. some (variable_from_table v t ∷ typed))
-        ≡ (variable_checked chunk edits sm5 v && passes rest (guard (type_held chunk edits sm5 t type_levels && true) >>= λ _. some left))
+        → passes (every typed_held) (others >>= λ typed. Some (variable_from_table v t ∷ typed))
+        ≡ (variable_checked chunk edits sm5 v && passes rest (guard (type_held chunk edits sm5 t type_levels && true) >>= λ _. Some left))
     unfolding every typed_held variable_checked variable_from_table
     one_variable v t left others rest e =
         holds_then (every typed_held) others _
@@ -85,7 +85,7 @@ module _ (chunk edits : Bytes) where
         ∙ and_assoc (variable_checked chunk edits sm5 v) (type_held chunk edits sm5 t type_levels) (rest left)
         ∙ ap (λ b. variable_checked chunk edits sm5 v && b)
         (ap (λ b. b && rest left) (sym (and-true (type_held chunk edits sm5 t type_levels)))
-        ∙ sym (holds_check rest (type_held chunk edits sm5 t type_levels && true) (λ _. some left)))
+        ∙ sym (holds_check rest (type_held chunk edits sm5 t type_levels && true) (λ _. Some left)))
 
     pub variables_take_lem : (vs : List VariableRecord) (xs : List (Node Text))
         → passes (every typed_held) (variables_from vs xs) ≡ variables_take chunk edits sm5 vs xs

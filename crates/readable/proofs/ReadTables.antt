@@ -11,7 +11,8 @@ use lib.ListN.{length, get_or, length-append}
 use Rattle.words.specs.Words.{word_at}
 use Rattle.text.proofs.Bools.{and-true}
 use Rattle.reflection.specs.Limits.{chunk_limit}
-use Rattle.reflection.specs.Strides.{rd11_header_size, binding_stride, buffer_stride, variable_stride, type_stride, member_stride, rd11_identifier, sm51_identifier}
+use Rattle.reflection.specs.Strides.{rd11_header_size, binding_stride, buffer_stride, variable_stride, type_stride, member_stride, rd11_identifier}
+use Rattle.reflection.specs.Strides.{sm51_identifier}
 use Rattle.reflection.specs.Rd11.{rd11_allowed}
 use Rattle.reflection.specs.declared.Text.{Text}
 use Rattle.reflection.specs.Reflection.{CBufferVariable, CBufferDef, ResourceBinding, ResourceDef, Rd11, major_of, is_sm5, is_wide}
@@ -20,7 +21,8 @@ use Rattle.reflection.specs.Texts.{in_chunk}
 use Rattle.reflection.specs.Reflection.{all_variables}
 use Rattle.reflection.specs.Contents.{Bytes}
 use Rattle.read_spec.specs.Step.{Room, return}
-use Rattle.read_spec.specs.Read.{read_many, read_variable, variable_from_chunk, read_buffer, buffer_from_chunk, read_binding, binding_from_chunk, read_rd11}
+use Rattle.read_spec.specs.Read.{read_many, read_variable, variable_from_chunk, read_buffer, buffer_from_chunk, read_binding, binding_from_chunk}
+use Rattle.read_spec.specs.Read.{read_rd11}
 use Rattle.read_spec.specs.Read.{read_tables, read_chunk}
 use Rattle.words.specs.Words.{word_if}
 use Rattle.readable.specs.Readable.{every, zero_unless, version_readable, binding_readable, node_count}

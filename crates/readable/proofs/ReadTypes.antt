@@ -1,5 +1,8 @@
 -- What is read is readable: names and defaults, and types with their members. Reading tests the names' bytes and places, a word's halves are below 65,536, and
 -- each node is taken from the room once.
+use Rattle.std.proofs.lemmas.Option.{none-some}
+use Rattle.text.proofs.Written.{span_parts}
+use Rattle.std.specs.Prelude.{None, Some}
 use mathlib.Core.Path.{◌≡◌, refl, sym, ap, ◌∙◌}
 use mathlib.Core.Bool.{Bool, true, false, ◌&&◌, ◌||◌, or-true}
 use mathlib.Core.List.{List, [], ◌∷◌, ◌++◌}
@@ -12,7 +15,7 @@ use Rattle.words.specs.Words.{word_at, low_at, high_at}
 use Rattle.words.specs.Parts.{inside}
 use Rattle.words.proofs.Words.{word_bounded}
 use Rattle.words.proofs.Parts.{inside_fits, fits_inside, part_inside}
-use Rattle.text.specs.declared.Found.TheVariants.{At, Bad}
+use Rattle.text.specs.Strings.{span}
 use Rattle.text.specs.Utf8.{well_formed, run}
 use Rattle.text.specs.Strings.{without_nul, cstring_at}
 use Rattle.text.proofs.Written.{StringAt, cstring_found}
@@ -34,7 +37,7 @@ use Rattle.readable.proofs.Leaves.{Leaves, Spent, none_spent, then_leaves, check
 
 module _ (chunk edits : Bytes) where
   -- A string that is found is a readable name; so is the empty one.
-  pub string_held : (at place k : ℕ) → cstring_at chunk at ≡ At place k → name_checked chunk edits (in_chunk place k) ≡ true
+  pub string_held : (at place k : ℕ) → cstring_at chunk at ≡ Some (span place k) → name_checked chunk edits (in_chunk place k) ≡ true
   unfolding name_readable
   string_held at place k e =
       let found : StringAt chunk at place k = cstring_found chunk at place k e in
@@ -52,14 +55,14 @@ module _ (chunk edits : Bytes) where
       ∙ ap (λ b. b && true) in_place
 
   -- A type's name, which is empty for major 4.
-  pub type_name_held : (sm5 : Bool) (at place k : ℕ) → type_name_at chunk sm5 at ≡ At place k
+  pub type_name_held : (sm5 : Bool) (at place k : ℕ) → type_name_at chunk sm5 at ≡ Some (span place k)
       → (name_checked chunk edits (in_chunk place k) ≡ true) × (zero_unless sm5 (k ∷ []) ≡ true)
   unfolding type_name_at cstring_or_empty zero_unless every
-  type_name_held false at place k e = (cc empty_held, cc)
+  type_name_held false at place k e = let first = (span_parts e).0 in let none = (span_parts e).1 in (cc empty_held, cc)
   type_name_held true at place k e = (go (word_at chunk (at + 32)) e, refl)
     where
-      go : (offset : ℕ) → cstring_or_empty chunk offset ≡ At place k → name_checked chunk edits (in_chunk place k) ≡ true
-      go zero f = cc empty_held
+      go : (offset : ℕ) → cstring_or_empty chunk offset ≡ Some (span place k) → name_checked chunk edits (in_chunk place k) ≡ true
+      go zero f = let first = (span_parts f).0 in let none = (span_parts f).1 in cc empty_held
       go (suc offset) f = string_held (suc offset) place k f
 
   -- A default: empty, or of the size that was asked for.
@@ -67,22 +70,22 @@ module _ (chunk edits : Bytes) where
   unfolding default_checked
   placed_held size place k h e = (λ i. (place_in_chunk chunk edits (in_chunk place k) refl ∙ fits_inside (length chunk) place k h) i && e i)
 
-  pub default_held : (offset size place k : ℕ) → default_at chunk offset size ≡ At place k → default_checked chunk edits size (in_chunk place k) ≡ true
+  pub default_held : (offset size place k : ℕ) → default_at chunk offset size ≡ Some (span place k) → default_checked chunk edits size (in_chunk place k) ≡ true
   unfolding default_at
   default_held zero size place k e =
-      let first : 0 ≡ place = cc in
-      let none : 0 ≡ k = cc in
+      let first : 0 ≡ place = (span_parts e).0 in
+      let none : 0 ≡ k = (span_parts e).1 in
       placed_held size place k (omega arith) (ap (λ b. b || eqb k size) (eq-eqb k 0 (sym none)))
   default_held (suc offset) size place k e = go (inside (length chunk) (suc offset) size) refl e
     where
-      go : (b : Bool) → inside (length chunk) (suc offset) size ≡ b → elim b [ true ↦ At (suc offset) size | false ↦ Bad ] ≡ At place k
+      go : (b : Bool) → inside (length chunk) (suc offset) size ≡ b → elim b [ true ↦ Some (span (suc offset) size) | false ↦ None ] ≡ Some (span place k)
           → default_checked chunk edits size (in_chunk place k) ≡ true
       go true fits f =
-          let here : suc offset ≡ place = cc in
-          let long : size ≡ k = cc in
+          let here : suc offset ≡ place = (span_parts f).0 in
+          let long : size ≡ k = (span_parts f).1 in
           placed_held size place k (omega (arith, inside_fits (length chunk) (suc offset) size fits))
           (ap (λ b. eqb k 0 || b) (eq-eqb k size (sym long)) ∙ or-true (eqb k 0))
-      go false fits f = absurd (let apart : ◌≡◌ {A = ℕ} 0 1 = cc in omega arith)
+      go false fits f = absurd (none-some _ f)
 
 module _ (chunk : Bytes) (bytes : (i : ℕ) → get_or chunk i 0 < 256) where
   low_fits : (at : ℕ) → low_at chunk at ≤ 65535

@@ -1,9 +1,9 @@
 -- What a readable reflection's tables hold: the reflection that they decode to, whose contents are readable, and counts and lengths within document 01's room.
 -- Each step of `table_contents` gave something; decoding keeps the counts, since every record, variable and node that is counted is used.
+use Rattle.std.specs.Prelude.{Option, None, Some}
 use mathlib.Core.Path.{◌≡◌, refl, sym, ap, ◌∙◌}
 use mathlib.Core.Bool.{true, ◌&&◌}
 use mathlib.Core.List.{List, map}
-use mathlib.Core.Option.{Option, none, some}
 use Prim.Native.Nat.{ℕ, ◌/◌, ◌≤◌}
 use native.Mathlib.Omega.{arith}
 use borrow.Author.Tests.{leb-true}
@@ -29,8 +29,8 @@ pub use Rattle.readable.proofs.Counts.{variables_map}
 -- What the tables of a readable reflection hold, and how much.
 pub record Readable (chunk edits : Bytes) (h : Header) (bindings buffers variables types : List ℕ) : Type 0 where
   pub def : ResourceDef Text Text
-  pub decoded : decode h bindings buffers variables types ≡ some def
-  pub is_held : table_contents chunk edits h bindings buffers variables types ≡ some (contents chunk edits def)
+  pub decoded : decode h bindings buffers variables types ≡ Some def
+  pub is_held : table_contents chunk edits h bindings buffers variables types ≡ Some (contents chunk edits def)
   pub is_readable : readable_contents (contents chunk edits def) ≡ true
   pub chunk_long : length chunk ≤ chunk_limit
   pub edits_long : length edits ≤ chunk_limit
@@ -54,14 +54,14 @@ record Counted (h : Header) (bindings buffers variables types : List ℕ) (r : R
   variables_inside : h.variable_count ≤ length variables / variable_width
   types_inside : h.type_count ≤ length types / type_width
 
-first_was : {A : Type 0} (width : ℕ) (record-at : List ℕ → ℕ → A) (t : List ℕ) (n : ℕ) (xs : List A) → first_records width record-at t n ≡ some xs
+first_was : {A : Type 0} (width : ℕ) (record-at : List ℕ → ℕ → A) (t : List ℕ) (n : ℕ) (xs : List A) → first_records width record-at t n ≡ Some xs
     → (n ≤ length t / width) × (length xs ≡ n)
 unfolding first_records
 first_was width record-at t n xs e =
     let (inside, e₁) = check_was (leb n (length t / width)) _ xs e in
     (leb-true n (length t / width) inside, ap length (sym (some_was e₁)) ∙ length_records (record-at t) 0 n)
 
-decode_counts : (h : Header) (bindings buffers variables types : List ℕ) (r : ResourceDef Text Text) → decode h bindings buffers variables types ≡ some r
+decode_counts : (h : Header) (bindings buffers variables types : List ℕ) (r : ResourceDef Text Text) → decode h bindings buffers variables types ≡ Some r
     → Counted h bindings buffers variables types r
 unfolding decode
 decode_counts h bindings buffers variables types r e =
@@ -134,11 +134,11 @@ contents_room chunk edits r e =
     }
 
 module _ (chunk edits : Bytes) (h : Header) (bindings buffers variables types : List ℕ) where
-  is_some : (o : Option (ResourceDef Bytes Bytes)) → is_readable o ≡ true → (r : ResourceDef Bytes Bytes) × (o ≡ some r) × (readable_contents r ≡ true)
-  is_some none e = absurd (let apart : ◌≡◌ {A = ℕ} 0 1 = cc in omega arith)
-  is_some (some r) e = (r, refl, e)
+  is_some : (o : Option (ResourceDef Bytes Bytes)) → is_readable o ≡ true → (r : ResourceDef Bytes Bytes) × (o ≡ Some r) × (readable_contents r ≡ true)
+  is_some None e = absurd (let apart : ◌≡◌ {A = ℕ} 0 1 = cc in omega arith)
+  is_some (Some r) e = (r, refl, e)
 
-  held_holds : (c : ResourceDef Bytes Bytes) → table_contents chunk edits h bindings buffers variables types ≡ some c → readable_contents c ≡ true
+  held_holds : (c : ResourceDef Bytes Bytes) → table_contents chunk edits h bindings buffers variables types ≡ Some c → readable_contents c ≡ true
       → Readable chunk edits h bindings buffers variables types
   unfolding table_contents
   held_holds c e passes =
@@ -154,7 +154,7 @@ module _ (chunk edits : Bytes) (h : Header) (bindings buffers variables types : 
       record {
         def = r;
         decoded = decoded;
-        is_held = e ∙ ap some (sym is);
+        is_held = e ∙ ap Some (sym is);
         is_readable = readable-def;
         chunk_long = leb-true (length chunk) chunk_limit chunk_long;
         edits_long = leb-true (length edits) chunk_limit edits_long;

@@ -1,9 +1,9 @@
 -- EVERYTHING THAT IS READ IS READABLE, in the tables that reading leaves too: what reading tests, and the room that it keeps to, is what readable asks for; and
 -- decoding the tables gives what was read.
+use Rattle.std.specs.Prelude.{Ok, Some}
 use mathlib.Core.Path.{◌≡◌, refl, sym, ap, ◌∙◌}
 use mathlib.Core.Bool.{Bool, true, ◌&&◌}
 use mathlib.Core.List.{List, [], ◌∷◌}
-use mathlib.Core.Option.{some}
 use Prim.Native.Nat.{ℕ, zero, suc, ◌≤◌, ◌<◌}
 use native.Mathlib.Omega.{arith}
 use borrow.Author.Tests.{eqb-true, ne_eqb, le-leb}
@@ -12,8 +12,8 @@ use lib.ListN.{length, get_or}
 use Rattle.text.proofs.Bools.{and-true}
 use Rattle.reflection.specs.Limits.{binding_room, buffer_room, variable_room, type_room, chunk_limit}
 use Rattle.reflection.specs.declared.Text.{Text}
-use Rattle.reflection.specs.Outcome.{ok}
-use Rattle.reflection.specs.Reflection.{TypeDesc, type_desc, Members, no_member, member, CBufferVariable, ResourceDef, Rd11, no_rd11, rd11, member_count}
+use Rattle.reflection.specs.Reflection.{TypeDesc, type_desc, Members, no_member, member, CBufferVariable, ResourceDef, Rd11, no_rd11, rd11}
+use Rattle.reflection.specs.Reflection.{member_count}
 use Rattle.reflection.specs.Reflection.{major_of, is_sm5, identifier_of, stride_of, slots_of}
 use Rattle.tables.specs.Nodes.{type_levels}
 use Rattle.tables.proofs.Levels.{Fits, FitsAll}
@@ -115,7 +115,7 @@ module _
     (room : Room)
     (full : AtMostFull room)
     (d : ResourceDef Text Text)
-    (reads : read room chunk ≡ ok d) where
+    (reads : read room chunk ≡ Ok d) where
   was_read : (r : Room) × DefRead chunk edits d room r
   unfolding read
   was_read = value_left (λ y r. DefRead chunk edits y room r) (read_chunk chunk room) d (chunk_read chunk edits bytes room) reads
@@ -137,7 +137,7 @@ module _
   module _ (edits_short : length edits ≤ chunk_limit) (nb nf nv nt : ℕ) where
     -- The tables that reading leaves hold it.
     pub read_held : table_contents chunk edits (header_of d) (padded nb (binding_rows d)) (padded nf (buffer_rows d)) (padded nv (variable_rows d))
-        (padded nt (type_rows d)) ≡ some (contents chunk edits d)
+        (padded nt (type_rows d)) ≡ Some (contents chunk edits d)
     unfolding table_contents guard
     read_held =
         let is : DefRead chunk edits d room was_read.0 = was_read.1 in

@@ -1,9 +1,9 @@
 -- Readable is what the functions of this crate test: a test that comes after a step of decoding may come before it, and the tests of what was decoded are
 -- those of its parts, since decoding uses each record once.
+use Rattle.std.specs.Prelude.{Option, None, Some}
 use mathlib.Core.Path.{◌≡◌, refl, ap, ◌∙◌}
 use mathlib.Core.Bool.{Bool, ◌&&◌}
 use mathlib.Core.List.{List, map}
-use mathlib.Core.Option.{Option, none, some}
 use Prim.Native.Nat.{ℕ, ◌/◌}
 use lib.Dec.{leb}
 use lib.ListN.{length, length-map}
@@ -29,15 +29,15 @@ use Rattle.readable.proofs.Counts.{AllUsed, AllTaken, variables_used, buffers_ta
 use Rattle.readable.proofs.Parts.{buffers_take_lem, typed_held, variables_take_lem, binding_tests, tests, tests_by_part_lem}
 
 is_holds : (o : Option (ResourceDef Bytes Bytes)) → is_readable o ≡ passes readable_contents o
-is_holds none = refl
-is_holds (some r) = refl
+is_holds None = refl
+is_holds (Some r) = refl
 
 -- The records of a table come after the test that it holds so many.
 first_then : {A B : Type 0} (k : B → Bool) (width : ℕ) (at : List ℕ → ℕ → A) (t : List ℕ) (n : ℕ) (f : List A → Option B)
     → passes k (first_records width at t n >>= f) ≡ (leb n (length t / width) && passes k (f (records_from (at t) 0 n)))
 unfolding first_records
 first_then k width at t n f =
-    holds_then k (first_records width at t n) f ∙ holds_check (λ xs. passes k (f xs)) (leb n (length t / width)) (λ _. some (records_from (at t) 0 n))
+    holds_then k (first_records width at t n) f ∙ holds_check (λ xs. passes k (f xs)) (leb n (length t / width)) (λ _. Some (records_from (at t) 0 n))
 
 names_last : (own names types room : Bool) → (own && (names && (types && room))) ≡ ((own && (types && room)) && names)
 names_last own names types room = simp tests-in-order

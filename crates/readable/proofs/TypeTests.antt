@@ -1,9 +1,9 @@
 -- Readable types, by their nodes: the walk over the nodes passes exactly where the nodes build a type, each name of which lies in its buffer and which is
 -- readable by its contents. By induction on the levels, and on the members of each type.
+use Rattle.std.specs.Prelude.{Option, None, Some}
 use mathlib.Core.Path.{◌≡◌, refl, sym, ap, ◌∙◌}
 use mathlib.Core.Bool.{Bool, true, false, ◌&&◌, ◌||◌, not, true-and, and-false}
 use mathlib.Core.List.{List, [], ◌∷◌}
-use mathlib.Core.Option.{Option, none, some}
 use Prim.Native.Nat.{ℕ, zero, suc}
 use lib.Dec.{leb}
 use lib.ListN.{length}
@@ -92,12 +92,12 @@ module _ (chunk edits : Bytes) (sm5 : Bool) where
 
   -- As many members are built as were asked for.
   counted : {N : Type 0} (mn : N) (mo : ℕ) (t : TypeDesc N) (others ms : Members N × List (Node N)) (n : ℕ)
-      → some (member mn mo t others.0, others.1) ≡ some ms → member_count others.0 ≡ n → member_count ms.0 ≡ suc n
+      → Some (member mn mo t others.0, others.1) ≡ Some ms → member_count others.0 ≡ n → member_count ms.0 ≡ suc n
   unfolding member_count
   counted mn mo t others ms n e h = let same : (member mn mo t others.0, others.1) ≡ ms = cc in ap (λ p. member_count p.0) (sym same) ∙ ap suc h
 
   pub members_counted : {N : Type 0} (build : List (Node N) → Option (Built N)) (n : ℕ) (xs : List (Node N)) (ms : Members N × List (Node N))
-      → members_from_nodes build n xs ≡ some ms → member_count ms.0 ≡ n
+      → members_from_nodes build n xs ≡ Some ms → member_count ms.0 ≡ n
   unfolding members_from_nodes member_count
   members_counted build zero xs ms e = let same : (no_member, xs) ≡ ms = cc in ap (λ p. member_count p.0) (sym same)
   members_counted build (suc n) xs ms e =
@@ -108,10 +108,10 @@ module _ (chunk edits : Bytes) (sm5 : Bool) where
 
   -- What is left after a type that passes its tests.
   abbrev pub passed : Bool → ℕ → Built Text → Option (List (Node Text))
-  passed inner levels t = guard (type_held t.type levels && (not inner || name_checked chunk edits t.member_name)) >>= λ _. some t.left
+  passed inner levels t = guard (type_held t.type levels && (not inner || name_checked chunk edits t.member_name)) >>= λ _. Some t.left
 
   abbrev members_passed : ℕ → Members Text × List (Node Text) → Option (List (Node Text))
-  members_passed levels ms = guard (members_held ms.0 levels) >>= λ _. some ms.1
+  members_passed levels ms = guard (members_held ms.0 levels) >>= λ _. Some ms.1
 
   -- The walk over the members, once the walk over a type is known.
   members_left_lem : (levels : ℕ) → ((xs : List (Node Text)) → type_left (node_checked chunk edits sm5) true levels xs
@@ -126,10 +126,10 @@ module _ (chunk edits : Bytes) (sm5 : Bool) where
       go : ((ys : List (Node Text)) → members_left (type_left (node_checked chunk edits sm5) true levels) n ys
           ≡ (members_from_nodes (type_from_nodes levels) n ys >>= members_passed levels))
           → (o : Option (Built Text)) → ((o >>= passed true levels) >>= members_left (type_left (node_checked chunk edits sm5) true levels) n)
-          ≡ ((o >>= λ t. (members_from_nodes (type_from_nodes levels) n t.left >>= λ ms. some
+          ≡ ((o >>= λ t. (members_from_nodes (type_from_nodes levels) n t.left >>= λ ms. Some
           (member t.member_name t.member_offset t.type ms.0, ms.1))) >>= members_passed levels)
-      go others none = refl
-      go others (some t) =
+      go others None = refl
+      go others (Some t) =
           check_then (type_held t.type levels && name_checked chunk edits t.member_name) t.left
           (members_left (type_left (node_checked chunk edits sm5) true levels) n)
           ∙ ap (λ o. guard (type_held t.type levels && name_checked chunk edits t.member_name) >>= λ _. o) (others t.left)
@@ -165,7 +165,7 @@ module _ (chunk edits : Bytes) (sm5 : Bool) where
       ∙ check_first (node_checked chunk edits sm5 inner x) (members_from_nodes (type_from_nodes levels) x.member_count xs) (λ ms. members_held ms.0 levels)
       (λ ms. ms.1)
       ∙ then_same (members_from_nodes (type_from_nodes levels) x.member_count xs) _ _
-      (λ ms e. ap (λ b. guard b >>= λ _. some ms.1) (node_held inner x levels ms.0 (members_counted (type_from_nodes levels) x.member_count xs ms e)))
+      (λ ms e. ap (λ b. guard b >>= λ _. Some ms.1) (node_held inner x levels ms.0 (members_counted (type_from_nodes levels) x.member_count xs ms e)))
       ∙ sym (some_then (members_from_nodes (type_from_nodes levels) x.member_count xs)
       (λ ms. record { type = type_desc x.numbers x.name ms.0; member_name = x.member_name; member_offset = x.member_offset; left = ms.1 })
       (passed inner (suc levels)))

@@ -1,8 +1,8 @@
 -- Vocabulary of internal contracts: no contract of an exported function and no demand cites it.
 -- Readable, record by record: what the functions of this crate test, each part a recursion over one table's records. `proofs/Split` shows that the parts
 -- together are `readable`.
-use Rattle.std.specs.Prelude.{◌≡◌, Bool, true, false, ◌&&◌, ◌||◌, not, List, [], ◌∷◌, map, ℕ, zero, suc, ◌-◌, ◌/◌, ◌≤◌, eqb, leb, length}
-use Rattle.std.proofs.Math.Option.{Option, none, some}
+use Rattle.std.specs.Prelude.{◌≡◌, Bool, true, false, ◌&&◌, ◌||◌, not, List, [], ◌∷◌, map, ℕ, zero, suc, ◌-◌, ◌/◌, ◌≤◌, eqb, leb, length, Option}
+use Rattle.std.specs.Prelude.{None, Some, IfSome, option_map}
 use Rattle.reflection.specs.declared.Text.{Text}
 use Rattle.reflection.specs.declared.ResourceDef.{ResourceDef as Header}
 use Rattle.reflection.specs.declared.ResourceBinding.{ResourceBinding as BindingRecord}
@@ -16,8 +16,6 @@ use Rattle.tables.specs.Decode.{guard, records_from, binding_from_table, node_fr
 use Rattle.reflection.specs.Rd11.{rd11_from_header}
 use Rattle.reflection.specs.Texts.{in_place, text_bytes}
 use Rattle.reflection.specs.Contents.{Bytes}
-use Rattle.readable.specs.declared.Walk.{Walk}
-use Rattle.readable.specs.declared.Walk.TheVariants.{Next, Failed}
 use Rattle.readable.specs.Readable.{every, name_readable, zero_unless, version_readable, binding_readable, numbers_readable, rd11_absent}
 
 -- A name that lies in its buffer and is readable.
@@ -79,23 +77,23 @@ node_checked chunk edits sm5 inner x =
 
 -- The nodes left after those of n types, `walk` walking one.
 unfoldable pub members_left : (List (Node Text) → Option (List (Node Text))) → ℕ → List (Node Text) → Option (List (Node Text))
-members_left walk zero xs = some xs
+members_left walk zero xs = Some xs
 members_left walk (suc n) xs = do
   left ← walk xs
   members_left walk n left
 
 -- The nodes left after those of one type of at most so many levels, where each passes the test; `inner` where the type is a member's.
 unfoldable pub type_left : (Bool → Node Text → Bool) → Bool → ℕ → List (Node Text) → Option (List (Node Text))
-type_left test inner zero xs = none
-type_left test inner (suc levels) [] = none
+type_left test inner zero xs = None
+type_left test inner (suc levels) [] = None
 type_left test inner (suc levels) (x ∷ xs) = do
   _ ← guard (test inner x)
   members_left (type_left test true levels) x.member_count xs
 
 -- The test of what an option has; false where it has nothing.
 abbrev pub passes : {A : Type 0} → (A → Bool) → Option A → Bool
-passes test none = false
-passes test (some a) = test a
+passes test None = false
+passes test (Some a) = test a
 
 -- Variables, each with the nodes of its type; no node is left over.
 unfoldable pub variables_take : Bytes → Bytes → Bool → List VariableRecord → List (Node Text) → Bool
@@ -108,19 +106,10 @@ variables_take chunk edits sm5 (v ∷ vs) xs =
 unfoldable pub nodes_from : List ℕ → ℕ → ℕ → List (Node Text)
 nodes_from t k n = map node_from_table (records_from (type_at t) k n)
 
--- The nodes that an answer leaves, of `count` nodes.
-abbrev pub left_by : List ℕ → ℕ → Walk → Option (List (Node Text))
-left_by types count (Next m) = some (nodes_from types m (count - m))
-left_by types count Failed = none
-
-abbrev pub NextWithin : ℕ → Walk → Type 0
-NextWithin count (Next m) = m ≤ count
-NextWithin count Failed = Unit
-
--- What a walk over nodes answers: the nodes that are left, or that there are none such.
-pub record NodesWalked (out : Option (List (Node Text))) (types : List ℕ) (count : ℕ) (r : Walk) : Type 0 where
-  pub outcome : out ≡ left_by types count r
-  pub within : NextWithin count r
+-- What a walk over nodes answers: the first of the `count` nodes that is left, or that there are none such.
+pub record NodesWalked (out : Option (List (Node Text))) (types : List ℕ) (count : ℕ) (r : Option ℕ) : Type 0 where
+  pub outcome : out ≡ option_map (λ m. nodes_from types m (count - m)) r
+  pub within : IfSome r (λ m. m ≤ count)
 
 -- The variables from i on, n of them, and the nodes from k on, m of them.
 unfoldable pub variables_checked : Bytes → Bytes → Bool → List ℕ → List ℕ → ℕ → ℕ → ℕ → ℕ → Bool

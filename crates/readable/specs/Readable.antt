@@ -1,7 +1,6 @@
 -- Readable: document 01, "What a reflection holds", "Readable means exactly this", and nothing else. First what the bytes and numbers must be, whatever
 -- tables hold them; then of a reflection in lent tables.
-use Rattle.std.specs.Prelude.{Bool, true, false, ◌&&◌, ◌||◌, List, [], ◌∷◌, ℕ, zero, suc, ◌+◌, eqb, leb, length}
-use Rattle.std.proofs.Math.Option.{Option, none, some}
+use Rattle.std.specs.Prelude.{Bool, true, false, ◌&&◌, ◌||◌, List, [], ◌∷◌, ℕ, zero, suc, ◌+◌, eqb, leb, length, Option, None, Some}
 use Rattle.text.specs.Utf8.{well_formed}
 use Rattle.text.specs.Strings.{without_nul}
 use Rattle.codes.specs.Table.{known}
@@ -113,11 +112,11 @@ table_contents chunk edits h bindings buffers variables types = do
   _ ← guard (rd11_absent h)
   r ← decode h bindings buffers variables types
   _ ← guard (texts_in_place chunk edits r)
-  some (contents chunk edits r)
+  Some (contents chunk edits r)
 
 abbrev pub is_readable : Option (ResourceDef Bytes Bytes) → Bool
-is_readable none = false
-is_readable (some r) = readable_contents r
+is_readable None = false
+is_readable (Some r) = readable_contents r
 
 -- Readable, of a reflection in lent tables.
 unfoldable pub readable : Bytes → Bytes → Header → List ℕ → List ℕ → List ℕ → List ℕ → Bool

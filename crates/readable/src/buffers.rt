@@ -5,6 +5,7 @@ ghost use Rattle.readable.specs.Checks.{buffers_checked};
 use crate::names::name_readable;
 
 // Whether the first `count` buffers are readable, and count as many variables as there are.
+#[tactic(auto, using(crate::proofs::RecordTests::buffers_none, crate::proofs::RecordTests::buffers_next))]
 pub(crate) fn buffers_readable(
     chunk: &[u8],
     edits: &[u8],
@@ -14,21 +15,16 @@ pub(crate) fn buffers_readable(
 ) -> bool
     ensures { result ≡ buffers_checked chunk.now edits.now table.now 0 count variables }
 {
-    let mut i: usize = 0;
-    let mut left = count;
     let mut rest = variables;
-    while 0 < left {
+    for i in 0..count as usize {
         let b = tables::buffer_at(table, i);
-        let name = b.name;
-        if !name_readable(chunk, edits, name) {
+        if !name_readable(chunk, edits, b.name) {
             return false;
         }
-        if rest < b.variable_count {
+        let Some(left) = rest.checked_sub(b.variable_count) else {
             return false;
-        }
-        rest -= b.variable_count;
-        i += 1;
-        left -= 1;
+        };
+        rest = left;
     }
     rest == 0
 }

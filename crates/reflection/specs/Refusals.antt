@@ -1,74 +1,50 @@
--- The numbers of document 01's table of refusals, each with its reason.
-use Rattle.std.specs.Prelude.{ℕ}
+-- Document 01's table of refusals: the number of each, with its reason.
+use Rattle.std.specs.Prelude.{◌≡◌, ◌≢◌, ℕ, Result, MatchResult}
+use Rattle.reflection.specs.declared.refusal.Refusal.{Refusal}
+use Rattle.reflection.specs.declared.refusal.Refusal.TheVariants.{ChunkTooShort, ChunkTooLong, BadVersion, BadCreator, Rd11Missing, BadRd11}
+use Rattle.reflection.specs.declared.refusal.Refusal.TheVariants.{RecordPastEnd, BadInputType, BadDimension, BadBindingFlags, BadName}
+use Rattle.reflection.specs.declared.refusal.Refusal.TheVariants.{DefaultPastEnd, TypeTooDeep, TypeCycle, NoRoom, NotReadable, OutputTooSmall}
+use Rattle.reflection.specs.declared.refusal.Refusal.TheVariants.{NoSpelling}
+use Rattle.reflection.specs.declared.refusal.UnknownRefusal.{UnknownRefusal}
 
+abbrev pub refusal_number : Refusal → ℕ
 -- Chunk under 28 bytes.
-abbrev pub chunk_too_short : ℕ
-chunk_too_short = 1
-
+refusal_number ChunkTooShort = 1
 -- Chunk over 65,536 bytes.
-abbrev pub chunk_too_long : ℕ
-chunk_too_long = 2
-
+refusal_number ChunkTooLong = 2
 -- Major version not 4 or 5.
-abbrev pub bad_version : ℕ
-bad_version = 3
-
+refusal_number BadVersion = 3
 -- Creator offset past the end, no NUL after it, or not UTF-8.
-abbrev pub bad_creator : ℕ
-bad_creator = 4
-
+refusal_number BadCreator = 4
 -- Major 5 under 60 bytes.
-abbrev pub rd11_missing : ℕ
-rd11_missing = 5
-
+refusal_number Rd11Missing = 5
 -- An RD11 word not allowed.
-abbrev pub bad_rd11 : ℕ
-bad_rd11 = 6
-
+refusal_number BadRd11 = 6
 -- A record or descriptor runs past the chunk.
-abbrev pub record_past_end : ℕ
-record_past_end = 7
-
+refusal_number RecordPastEnd = 7
 -- Input type above 13.
-abbrev pub bad_input_type : ℕ
-bad_input_type = 8
-
+refusal_number BadInputType = 8
 -- Dimension above 11.
-abbrev pub bad_dimension : ℕ
-bad_dimension = 9
-
+refusal_number BadDimension = 9
 -- Binding flags outside 0x1f.
-abbrev pub bad_binding_flags : ℕ
-bad_binding_flags = 10
-
+refusal_number BadBindingFlags = 10
 -- Another string is bad, as the creator in 4.
-abbrev pub bad_name : ℕ
-bad_name = 11
-
+refusal_number BadName = 11
 -- A default runs past the chunk.
-abbrev pub default_past_end : ℕ
-default_past_end = 12
-
+refusal_number DefaultPastEnd = 12
 -- Type depth above 64, the root at 0.
-abbrev pub type_too_deep : ℕ
-type_too_deep = 13
-
+refusal_number TypeTooDeep = 13
 -- A descriptor that is already on the path.
-abbrev pub type_cycle : ℕ
-type_cycle = 14
-
+refusal_number TypeCycle = 14
 -- No room for one more record or node; scratch too short.
-abbrev pub no_room : ℕ
-no_room = 15
-
+refusal_number NoRoom = 15
 -- The reflection is not readable; a name out of place or not UTF-8.
-abbrev pub not_readable : ℕ
-not_readable = 16
-
+refusal_number NotReadable = 16
 -- Output too small, or over 65,536 bytes.
-abbrev pub output_too_small : ℕ
-output_too_small = 17
-
+refusal_number OutputTooSmall = 17
 -- No spelling, or spelling not understood.
-abbrev pub no_spelling : ℕ
-no_spelling = 18
+refusal_number NoSpelling = 18
+
+-- What a number answers as: the refusal that has it, or the number itself where no refusal has it.
+abbrev pub FromNumber : ℕ → Result Refusal UnknownRefusal → Type 0
+FromNumber n r = MatchResult r (λ e. refusal_number e ≡ n) (λ u. (u.0 ≡ n) × ((e : Refusal) → refusal_number e ≢ n))

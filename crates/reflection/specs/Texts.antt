@@ -1,11 +1,9 @@
 -- Names and defaults: a place and a length in one of two lent buffers, the chunk or the text of edits (document 01, "What a reflection holds").
-use Rattle.std.specs.Prelude.{Bool, true, false, List, [], ℕ, eqb, length}
+use Rattle.std.specs.Prelude.{Bool, true, false, Ok, Err, List, [], ℕ, eqb, length}
 use Rattle.words.specs.Parts.{inside, part}
 use Rattle.reflection.specs.declared.Text.{Text}
-use Rattle.reflection.specs.declared.NamePlace.{NamePlace}
-use Rattle.reflection.specs.declared.NamePlace.TheVariants.{InPlace, Refused}
-use Rattle.reflection.specs.Refusals.{not_readable}
-use Rattle.reflection.specs.Outcome.{because}
+use Rattle.reflection.specs.declared.refusal.Refusal.TheVariants.{NotReadable}
+use Rattle.reflection.specs.Outcome.{Outcome}
 
 -- A text in the chunk; an empty text "at place 0" is `in_chunk 0 0`.
 abbrev pub in_chunk : ℕ → ℕ → Text
@@ -28,6 +26,6 @@ text_bytes chunk edits t =
     ]
 
 -- What the call beside a name says: the name is in place, or refused.
-abbrev pub name_place : Bool → NamePlace
-name_place true = InPlace
-name_place false = Refused (because not_readable)
+abbrev pub name_place : Bool → Outcome (Unit {0})
+name_place true = Ok tt
+name_place false = Err NotReadable

@@ -6,7 +6,7 @@ use flags::{BindingFlags, VariableFlags};
 mod limits;
 mod names;
 mod rd11;
-mod refusal_numbers;
+mod refusal;
 mod strides;
 
 pub use limits::{
@@ -16,16 +16,15 @@ pub use limits::{
 };
 pub use names::{in_chunk, in_place, name_part, name_refusal};
 pub use rd11::{is_sm5, is_wide, major_of, rd11_allowed};
-pub use refusal_numbers::{
-    BAD_BINDING_FLAGS, BAD_CREATOR, BAD_DIMENSION, BAD_INPUT_TYPE, BAD_NAME, BAD_RD11, BAD_VERSION,
-    CHUNK_TOO_LONG, CHUNK_TOO_SHORT, DEFAULT_PAST_END, NO_ROOM, NO_SPELLING, NOT_READABLE,
-    OUTPUT_TOO_SMALL, RD11_MISSING, RECORD_PAST_END, TYPE_CYCLE, TYPE_TOO_DEEP,
-};
+pub use refusal::{Refusal, UnknownRefusal};
 pub use strides::{
     BINDING_STRIDE, BUFFER_STRIDE, HEADER_SIZE, MEMBER_STRIDE, RD11_HEADER_SIZE, RD11_IDENTIFIER,
     SM5_TYPE_STRIDE, SM5_VARIABLE_STRIDE, SM51_IDENTIFIER, TYPE_STRIDE, VARIABLE_STRIDE,
     WIDE_BINDING_STRIDE,
 };
+
+// The fields of these structs are the words of lent tables, in which any number can stand, so none is an Option or an enum: `readable` has to see what
+// should be 0 and is not, or is no code. 0 is what an unused word holds (docs/DECISIONS.md).
 
 // Where a name or a default lies: in the chunk (source 0) or in the text of edits (source 1), `length` bytes from `place` on.
 #[derive(Clone, Copy)]
@@ -33,19 +32,6 @@ pub struct Text {
     pub source: u32,
     pub place: u32,
     pub length: u32,
-}
-
-// Why an entry refused: the number of document 01's table.
-#[derive(Clone, Copy)]
-pub struct Refusal {
-    pub number: u32,
-}
-
-// Whether a name lies in the buffer that its source names.
-#[derive(Clone, Copy)]
-pub enum NamePlace {
-    InPlace,
-    Refused(Refusal),
 }
 
 // The RD11 words that are free; all 0 for major 4.

@@ -1,158 +1,140 @@
-// A file of stored cases, and what the replaying of one has in common. A place past the file's end is `BEYOND`: what stands there reads as 0, and no
-// place after it is in the file again.
-ghost use Rattle.std.specs.Prelude.{◌<◌};
-
+// A file of stored cases, which is read from its start on, and what the replaying of one has in common.
+use crate::summary::ANSWERS;
 use std::fs::File;
 use std::io;
 use std::io::Write;
 use std::rt::Files;
 
 // A file is shorter than this.
-pub const BEYOND: usize = 4194304;
+pub const FILE_LIMIT: usize = 4194304;
 
-// The query's kind (1 where a file has one kind), the port's answer, whether all of it is as stored, and where the next case begins: `BEYOND` where
-// this is no case.
+// The port's answer, and whether all of it is as stored.
 #[derive(Clone, Copy)]
 pub struct Replayed {
-    pub kind: u32,
     pub number: u32,
     pub same: bool,
-    pub next: usize,
 }
 
-// A kind that is not known, or more words or bytes than there is room for here: the file is a bad one.
-pub fn no_case() -> Replayed {
-    Replayed {
-        kind: 0,
-        number: 0,
-        same: false,
-        next: BEYOND,
+// The cases of a file.
+pub trait Cases {
+    // Replays the next case. What is cut, of a kind that is not known, or longer than what is lent here, is no case: the file is a bad one.
+    fn replay(&mut self, stored: &mut Stored<'_>) -> Option<Replayed>;
+
+    // Prints how many cases had each answer.
+    fn answer_lines<W: Write>(&self, out: &mut W, answers: &[u32; ANSWERS]) -> io::Result<()>;
+}
+
+// What is still to be read of a file.
+#[derive(Clone, Copy)]
+pub struct Stored<'a> {
+    rest: &'a [u8],
+}
+
+impl<'a> Stored<'a> {
+    pub fn new(file: &'a [u8]) -> Stored<'a> {
+        Stored { rest: file }
+    }
+
+    pub fn is_empty(&self) -> bool {
+        self.rest.is_empty()
+    }
+
+    fn bytes(&mut self, n: usize) -> Option<&'a [u8]> {
+        let (bytes, rest) = self.rest.split_at_checked(n)?;
+        self.rest = rest;
+        Some(bytes)
+    }
+
+    pub fn words(&mut self, n: usize) -> Option<&'a [[u8; 4]]> {
+        let bytes = self.bytes(n.checked_mul(4)?)?;
+        Some(bytes.as_chunks().0)
+    }
+
+    pub fn number(&mut self) -> Option<u32> {
+        let (word, rest) = self.rest.split_first_chunk()?;
+        self.rest = rest;
+        Some(u32::from_le_bytes(*word))
+    }
+
+    // Bytes, behind their number.
+    pub fn text(&mut self) -> Option<&'a [u8]> {
+        let n = self.number()?;
+        self.bytes(n as usize)
+    }
+
+    // Words, behind their number.
+    pub fn table(&mut self) -> Option<&'a [[u8; 4]]> {
+        let n = self.number()?;
+        self.words(n as usize)
+    }
+
+    pub fn record<const N: usize>(&mut self) -> Option<[u32; N]> {
+        let mut record = [0; N];
+        copied(&mut record, self.words(N)?)?;
+        Some(record)
     }
 }
 
-// Reads the file `name`; the answer is its length. Where there is none, or a longer one, a line says so and the answer is `BEYOND`.
-pub fn read_cases<W: Write>(
-    rt: &impl Files,
-    out: &mut W,
-    name: &str,
-    all: &mut [u8; BEYOND],
-) -> io::Result<usize> {
-    let Ok(mut cases) = File::open(rt, name) else {
-        stdout::put_bytes(out, b"no file\n")?;
-        return Ok(BEYOND);
+// The stored words, at the start of what is lent, if there is room for them.
+pub fn copied<'a>(lent: &'a mut [u32], stored: &[[u8; 4]]) -> Option<&'a [u32]> {
+    let words = lent.get_mut(..stored.len())?;
+    for (word, bytes) in words.iter_mut().zip(stored) {
+        *word = u32::from_le_bytes(*bytes);
+    }
+    Some(words)
+}
+
+// Whether the table holds the stored words, and zeros after them.
+pub fn holds(table: &[u32], stored: &[[u8; 4]]) -> bool {
+    let Some((words, rest)) = table.split_at_checked(stored.len()) else {
+        return false;
     };
-    let n = input::read_full(&mut cases, all)?;
-    if n < BEYOND {
-        return Ok(n);
-    }
-    stdout::put_bytes(out, b"bad file\n")?;
-    Ok(BEYOND)
+    words
+        .iter()
+        .zip(stored)
+        .all(|(word, bytes)| *word == u32::from_le_bytes(*bytes))
+        && zero(rest)
 }
 
-// The place `n` bytes after `at`.
-pub fn bytes_on(all: &[u8], at: usize, n: usize) -> usize {
-    if at <= all.len() {
-        if n <= all.len() - at {
-            return at + n;
-        }
-    }
-    BEYOND
+pub fn zero(words: &[u32]) -> bool {
+    words.iter().all(|word| *word == 0)
 }
 
-// The place `n` words after `at`.
-pub fn words_on(all: &[u8], at: usize, n: usize) -> usize {
-    if n < 4294967296 {
-        return bytes_on(all, at, 4 * n);
-    }
-    BEYOND
-}
-
-// The number at a place of the file.
-pub fn number_at(all: &[u8], at: usize) -> usize
-    ensures { result < 4294967296 }
-{
-    words::word_at(all, at) as usize
-}
-
-// The place behind words whose number stands at `at`.
-pub fn after_words(all: &[u8], at: usize) -> usize {
-    words_on(all, words_on(all, at, 1), number_at(all, at))
-}
-
-// The place behind bytes whose number stands at `at`.
-pub fn after_bytes(all: &[u8], at: usize) -> usize {
-    bytes_on(all, words_on(all, at, 1), number_at(all, at))
-}
-
-// The bytes whose number stands at `at`.
-pub fn bytes_at(all: &[u8], at: usize) -> &[u8] {
-    words::part(all, words_on(all, at, 1), number_at(all, at))
-}
-
-// Whether the table holds the file's `n` words from `at` on, and zeros after them.
-pub fn holds(table: &[u32], all: &[u8], at: usize, n: usize) -> bool {
-    let mut from = at;
-    let mut i = 0;
-    while i < table.len() {
-        let mut want: u32 = 0;
-        if i < n {
-            want = words::word_at(all, from);
-            from = words_on(all, from, 1);
-        }
-        if table[i] != want {
-            return false;
-        }
-        i += 1;
-    }
-    n <= table.len()
-}
-
-// Sets every word of the table to that of the file, from `at` on.
-pub fn copy_words(table: &mut [u32], all: &[u8], at: usize) {
-    let mut from = at;
-    for i in 0..table.len() {
-        table[i] = words::word_at(all, from);
-        from = words_on(all, from, 1);
-    }
-}
-
-// Whether the output begins with `text`, and has nothing but `rest` after it.
-fn leaves(out: &[u8], text: &[u8], rest: u8) -> bool {
-    for i in 0..out.len() {
-        let mut want = rest;
-        if i < text.len() {
-            want = text[i];
-        }
-        if out[i] != want {
-            return false;
-        }
-    }
-    text.len() <= out.len()
-}
-
-pub fn both(a: bool, b: bool) -> bool {
-    if a { b } else { false }
-}
-
-// Whether what the port left is the answer that stands at `at`: its number, the written length and bytes, 0xdd behind them still, or zeros after a
+// Whether what the port left is the answer that is stored next: its number, the written length and bytes, 0xdd behind them still, or zeros after a
 // refusal.
 pub fn compare_text(
-    all: &[u8],
-    at: usize,
-    kind: u32,
+    stored: &mut Stored<'_>,
     number: u32,
     length: &[u32; 2],
     out: &[u8],
-) -> Replayed {
-    let text = words_on(all, at, 1);
-    let rest = if number == 0 { 0xdd } else { 0 };
-    let mut same = number == words::word_at(all, at);
-    same = both(same, holds(length, all, text, 1));
-    same = both(same, leaves(out, bytes_at(all, text), rest));
-    Replayed {
-        kind: kind,
-        number: number,
-        same: same,
-        next: after_bytes(all, text),
+) -> Option<Replayed> {
+    let stored_number = stored.number()?;
+    let text = stored.text()?;
+    let behind = if number == 0 { 0xdd } else { 0 };
+    let left = out
+        .strip_prefix(text)
+        .is_some_and(|rest| rest.iter().all(|b| *b == behind));
+    Some(Replayed {
+        number,
+        same: number == stored_number && length[0] as usize == text.len() && length[1] == 0 && left,
+    })
+}
+
+// Reads the file `name`. Where there is none, or one that is too long, a line says so.
+pub fn read_cases<'a, W: Write>(
+    rt: &impl Files,
+    out: &mut W,
+    name: &str,
+    all: &'a mut [u8; FILE_LIMIT],
+) -> io::Result<Option<&'a [u8]>> {
+    let Ok(mut file) = File::open(rt, name) else {
+        stdout::put_bytes(out, b"no file\n")?;
+        return Ok(None);
+    };
+    let n = input::read_full(&mut file, all)?;
+    if n < FILE_LIMIT {
+        return Ok(Some(&all[..n]));
     }
+    stdout::put_bytes(out, b"bad file\n")?;
+    Ok(None)
 }

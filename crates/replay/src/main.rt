@@ -3,11 +3,14 @@
 // is lent has 0xdd in every byte before, so that what it does not set is seen. Then come the reports of the chunks on standard input.
 #![tactic(auto)]
 
-use cases::{BEYOND, Replayed};
+use canonical::Canonical;
+use cases::{Cases, FILE_LIMIT, Stored};
+use reading::Reading;
+use spelled::Spelling;
 use std::io;
 use std::io::{BufWriter, Write};
 use std::rt::Files;
-use summary::{ANSWERS, line};
+use summary::ANSWERS;
 
 mod canonical;
 mod cases;
@@ -16,94 +19,54 @@ mod reports;
 mod spelled;
 mod summary;
 
-// The stored files.
-const READING: u32 = 0;
-
-const CANONICAL: u32 = 1;
-
-const SPELLING: u32 = 2;
-
-// Replays the case of a file that begins at `at`.
-fn replay_case(file: u32, all: &[u8], at: usize) -> Replayed {
-    if file == READING {
-        return reading::replay_chunk(all, at);
-    }
-    if file == CANONICAL {
-        return canonical::replay_reflection(all, at);
-    }
-    spelled::replay_query(all, at)
-}
-
-// Prints how many cases of a file had each answer.
-fn answer_lines<W: Write>(
-    out: &mut W,
-    file: u32,
-    kinds: &[u32; ANSWERS],
-    answers: &[u32; ANSWERS],
-) -> io::Result<()> {
-    if file == READING {
-        return reading::answer_lines(out, answers);
-    }
-    if file == CANONICAL {
-        return canonical::answer_lines(out, answers);
-    }
-    spelled::answer_lines(out, kinds, answers)
-}
-
 // Replays the cases of a file, one after the other. A file that is cut, or that has more than its cases, is a bad one.
-fn replay_all<W: Write>(out: &mut W, file: u32, all: &[u8]) -> io::Result<()> {
-    let mut kinds = [0u32; ANSWERS];
+fn replay_all<C: Cases, W: Write>(out: &mut W, cases: &mut C, file: &[u8]) -> io::Result<()> {
+    let mut stored = Stored::new(file);
     let mut answers = [0u32; ANSWERS];
+    let mut replayed: u32 = 0;
     let mut different: u32 = 0;
-    let count = words::word_at(all, 0);
-    let mut at = cases::words_on(all, 0, 1);
-    let mut i: u32 = 0;
-    while i < count {
-        let replayed = replay_case(file, all, at);
-        at = replayed.next;
-        if all.len() < at {
+    let count = stored.number();
+    for i in 0..count.unwrap_or(0) {
+        let Some(case) = cases.replay(&mut stored) else {
             break;
+        };
+        summary::count(&mut answers, case.number);
+        if !case.same {
+            writeln!(out, "case\t{i}")?;
+            different = different.saturating_add(1);
         }
-        summary::count(&mut kinds, replayed.kind);
-        summary::count(&mut answers, replayed.number);
-        if !replayed.same {
-            line(out, b"case", i)?;
-            different = summary::one_more(different);
-        }
-        i += 1;
+        replayed = i + 1;
     }
-    line(out, b"cases", i)?;
-    answer_lines(out, file, &kinds, &answers)?;
-    line(out, b"different", different)?;
-    if at != all.len() {
+    writeln!(out, "cases\t{replayed}")?;
+    cases.answer_lines(out, &answers)?;
+    writeln!(out, "different\t{different}")?;
+    if count != Some(replayed) || !stored.is_empty() {
         stdout::put_bytes(out, b"bad file\n")?;
     }
     Ok(())
 }
 
 // Replays a file.
-fn replay_file<W: Write>(
+fn replay_file<C: Cases + Drop, W: Write>(
     rt: &impl Files,
     out: &mut W,
-    file: u32,
     name: &str,
-    all: &mut [u8; BEYOND],
+    mut cases: C,
+    all: &mut [u8; FILE_LIMIT],
 ) -> io::Result<()> {
-    stdout::put_bytes(out, name.as_bytes())?;
-    stdout::put_byte(out, b'\n')?;
-    let n = cases::read_cases(rt, out, name, all)?;
-    if n < BEYOND {
-        replay_all(out, file, words::part(all, 0, n))?;
+    writeln!(out, "{name}")?;
+    if let Some(file) = cases::read_cases(rt, out, name, all)? {
+        replay_all(out, &mut cases, file)?;
     }
     Ok(())
 }
 
 fn main(rt: HostRuntime) -> io::Result<()> {
     let mut out = BufWriter::new(rt.alloc(), rt.stdout())?;
-    let mut all = [0u8; BEYOND];
-    replay_file(&rt, &mut out, READING, "reading", &mut all)?;
-    replay_file(&rt, &mut out, CANONICAL, "canonical", &mut all)?;
-    replay_file(&rt, &mut out, SPELLING, "spelling", &mut all)?;
+    let mut all = [0u8; FILE_LIMIT];
+    replay_file(&rt, &mut out, "reading", Reading, &mut all)?;
+    replay_file(&rt, &mut out, "canonical", Canonical, &mut all)?;
+    replay_file(&rt, &mut out, "spelling", Spelling::default(), &mut all)?;
     reports::print_reports(&rt, &mut out)?;
     stdout::flush(&mut out)
 }

@@ -6,9 +6,6 @@ use std::io::{Input, Write};
 // The longest chunk that the input may have. It is longer than any that is read, so that some which are too long can be among them.
 const LONGEST: usize = 2 * reflection::CHUNK_LIMIT;
 
-// The length of no chunk.
-const NONE: usize = LONGEST + 1;
-
 // The next word of standard input, or 0 where it ends before.
 fn next_word(rt: &impl Input) -> io::Result<u32> {
     let mut bytes = [0u8; 4];
@@ -16,21 +13,25 @@ fn next_word(rt: &impl Input) -> io::Result<u32> {
     Ok(words::word_at(words::part(&bytes, 0, n), 0))
 }
 
-// Reads the next chunk of standard input into `chunk`. Answers its length, or `NONE` where there is no room for it or the input ends within it.
-fn next_chunk(rt: &impl Input, chunk: &mut [u8]) -> io::Result<usize> {
+// Reads the next chunk of standard input into `lent`: `None` where there is no room for it or the input ends within it.
+fn next_chunk<'a>(rt: &impl Input, lent: &'a mut [u8]) -> io::Result<Option<&'a [u8]>> {
     let length = next_word(rt)? as usize;
-    if chunk.len() < length {
-        return Ok(NONE);
+    let Some(chunk) = lent.get_mut(..length) else {
+        return Ok(None);
+    };
+    let n = input::standard_full(rt, chunk)?;
+    if n < length {
+        Ok(None)
+    } else {
+        Ok(Some(chunk))
     }
-    let n = input::standard_full(rt, &mut chunk[..length])?;
-    if n < length { Ok(NONE) } else { Ok(length) }
 }
 
 // Prints the report of each chunk. An input that ends within a chunk, or that has a longer one, is bad.
 fn report_each<W: Write>(
     rt: &impl Input,
     out: &mut W,
-    chunk: &mut [u8; LONGEST],
+    lent: &mut [u8; LONGEST],
     bindings: &mut [u32; reflection::BINDING_TABLE],
     buffers: &mut [u32; reflection::BUFFER_TABLE],
     variables: &mut [u32; reflection::VARIABLE_TABLE],
@@ -38,18 +39,10 @@ fn report_each<W: Write>(
 ) -> io::Result<()> {
     let count = next_word(rt)?;
     for _ in 0..count {
-        let n = next_chunk(rt, chunk)?;
-        if n == NONE {
+        let Some(chunk) = next_chunk(rt, lent)? else {
             return stdout::put_bytes(out, b"bad input\n");
-        }
-        report_lines::report(
-            out,
-            words::part(chunk, 0, n),
-            bindings,
-            buffers,
-            variables,
-            types,
-        )?;
+        };
+        report_lines::report(out, chunk, bindings, buffers, variables, types)?;
         stdout::put_byte(out, b'\n')?;
     }
     Ok(())

@@ -1,13 +1,13 @@
 // Reads a chunk from standard input and prints what it holds, a line for each record (document 01, "The report program").
 #![tactic(auto)]
 
-use reflection::{BINDING_TABLE, BUFFER_TABLE, CHUNK_LIMIT, TYPE_TABLE, VARIABLE_TABLE};
+use reflection::{BINDING_TABLE, BUFFER_TABLE, CHUNK_LIMIT, Refusal, TYPE_TABLE, VARIABLE_TABLE};
 use std::io;
 use std::io::BufWriter;
 use stderr::Failure;
 
-// Prints the report. Answers the number of the refusal, 0 where there is none. The tables have document 01's whole room.
-fn print(rt: &HostRuntime, chunk: &[u8]) -> io::Result<u32> {
+// Prints the report. Answers why the chunk was refused, where it was. The tables have document 01's whole room.
+fn print(rt: &HostRuntime, chunk: &[u8]) -> io::Result<Option<Refusal>> {
     let mut bindings = [0u32; BINDING_TABLE];
     let mut buffers = [0u32; BUFFER_TABLE];
     let mut variables = [0u32; VARIABLE_TABLE];

@@ -2,8 +2,7 @@
 // report has no limit.
 #![tactic(auto)]
 
-use read::Parsed;
-use reflection::{BINDING_TABLE, BUFFER_TABLE, TYPE_TABLE, VARIABLE_TABLE};
+use reflection::{BINDING_TABLE, BUFFER_TABLE, Refusal, TYPE_TABLE, VARIABLE_TABLE};
 use std::io;
 use std::io::Write;
 
@@ -11,8 +10,7 @@ mod chunk_lines;
 mod fields;
 mod lines;
 
-// Prints what the chunk reads as, or why it was refused. Answers the refusal's number, 0 where the chunk was read. The tables have document 01's whole
-// room.
+// Prints what the chunk reads as, or why it was refused. Answers why the chunk was refused, where it was. The tables have document 01's whole room.
 pub fn report<W: Write>(
     out: &mut W,
     chunk: &[u8],
@@ -20,16 +18,15 @@ pub fn report<W: Write>(
     buffers: &mut [u32; BUFFER_TABLE],
     variables: &mut [u32; VARIABLE_TABLE],
     types: &mut [u32; TYPE_TABLE],
-) -> io::Result<u32> {
-    let parsed = read::parse_rdef(chunk, bindings, buffers, variables, types);
-    match parsed {
-        Parsed::Refused(refusal) => {
-            stdout::put_refused(out, refusal.number)?;
-            Ok(refusal.number)
+) -> io::Result<Option<Refusal>> {
+    match read::parse_rdef(chunk, bindings, buffers, variables, types) {
+        Err(refusal) => {
+            stdout::put_refused(out, refusal)?;
+            Ok(Some(refusal))
         }
-        Parsed::Read(def) => {
+        Ok(def) => {
             chunk_lines::all_lines(out, chunk, def, bindings, buffers, variables, types)?;
-            Ok(0)
+            Ok(None)
         }
     }
 }

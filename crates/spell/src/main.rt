@@ -2,7 +2,8 @@
 // "Spelling and listing"). A line feed ends a line, which the last line may lack.
 #![tactic(auto)]
 
-use spelling_parse::{SpelledType, TypeSpelling};
+use reflection::Refusal;
+use spelling_parse::TypeSpelling;
 use std::io;
 use std::io::{BufWriter, Write};
 use stderr::Failure;
@@ -67,21 +68,30 @@ fn keep(line: &mut [u8; LONGEST], n: usize, b: u8) -> usize {
     n + 1
 }
 
-// The line of a text that was refused; `first` keeps the first such number.
-fn put_refused<W: Write>(out: &mut W, first: &mut u32, number: u32) -> io::Result<()> {
-    stderr::keep_first(first, number);
-    stdout::put_refused(out, number)
+// The line of a text that was refused; `first` keeps the first.
+fn put_refused<W: Write>(
+    out: &mut W,
+    first: &mut Option<Refusal>,
+    refusal: Refusal,
+) -> io::Result<()> {
+    stderr::keep_first(first, refusal);
+    stdout::put_refused(out, refusal)
 }
 
 // Answers a text of which `length` bytes are kept; one that had no room is no spelling.
-fn answer<W: Write>(out: &mut W, refused: &mut u32, line: &[u8], length: usize) -> io::Result<()> {
+fn answer<W: Write>(
+    out: &mut W,
+    refused: &mut Option<Refusal>,
+    line: &[u8],
+    length: usize,
+) -> io::Result<()> {
     if LONGEST < length {
-        return put_refused(out, refused, reflection::NO_SPELLING);
+        return put_refused(out, refused, Refusal::NoSpelling);
     }
     let spelled = spelling_parse::parse_hlsl_type(words::part(line, 0, length));
     match spelled {
-        SpelledType::Refused(refusal) => put_refused(out, refused, refusal.number),
-        SpelledType::Understood(t) => put_numbers(out, t),
+        Err(refusal) => put_refused(out, refused, refusal),
+        Ok(t) => put_numbers(out, t),
     }
 }
 
@@ -89,7 +99,7 @@ fn answer<W: Write>(out: &mut W, refused: &mut u32, line: &[u8], length: usize) 
 // of the line that is not ended.
 fn answer_block<W: Write>(
     out: &mut W,
-    refused: &mut u32,
+    refused: &mut Option<Refusal>,
     line: &mut [u8; LONGEST],
     held: usize,
     block: &[u8],
@@ -110,7 +120,7 @@ fn answer_block<W: Write>(
 fn answer_some<W: Write>(
     rt: &HostRuntime,
     out: &mut W,
-    refused: &mut u32,
+    refused: &mut Option<Refusal>,
     line: &mut [u8; LONGEST],
     held: &mut usize,
 ) -> Result<bool, Failure> {
@@ -126,7 +136,7 @@ fn answer_some<W: Write>(
 fn answer_all<W: Write>(
     rt: &HostRuntime,
     out: &mut W,
-    refused: &mut u32,
+    refused: &mut Option<Refusal>,
     line: &mut [u8; LONGEST],
 ) -> Result<(), Failure> {
     let mut held: usize = 0;
@@ -142,7 +152,7 @@ fn answer_all<W: Write>(
 }
 
 // `answer_all` to standard output.
-fn spell(rt: &HostRuntime, refused: &mut u32) -> Result<(), Failure> {
+fn spell(rt: &HostRuntime, refused: &mut Option<Refusal>) -> Result<(), Failure> {
     let mut line = [0u8; LONGEST];
     let mut out = BufWriter::new(rt.alloc(), rt.stdout()).map_err(Failure::Output)?;
     answer_all(rt, &mut out, refused, &mut line)
@@ -150,7 +160,7 @@ fn spell(rt: &HostRuntime, refused: &mut u32) -> Result<(), Failure> {
 
 // The first text that was refused is said even where a read or a write failed.
 fn main(rt: HostRuntime) -> Result<(), Failure> {
-    let mut refused: u32 = 0;
+    let mut refused: Option<Refusal> = None;
     let answered = spell(&rt, &mut refused);
     stderr::refused(&rt, b"", refused)?;
     answered

@@ -1,61 +1,78 @@
 -- The definitions of `hlsl_type_name` and of the declaration line, by the tests in their order: not readable, no spelling, then the bytes.
-use mathlib.Core.Path.{◌≡◌, ap}
-use mathlib.Core.Bool.{true, false}
+use Rattle.std.specs.Option.{IfSome, ok_or}
+use Rattle.std.specs.Result.{IfOk}
+use Rattle.std.specs.Prelude.{Option, Some, None, Ok, Err}
+use Rattle.reflection.specs.declared.refusal.Refusal.TheVariants.{NotReadable, NoSpelling}
+use mathlib.Core.Path.{◌≡◌, refl, ap, ◌∙◌}
+use mathlib.Core.Bool.{Bool, true, false, ◌&&◌, cond}
 use mathlib.Core.List.{List, [], ◌∷◌, ◌++◌}
-use Prim.Native.Nat.{ℕ}
+use Prim.Native.Nat.{ℕ, ◌≤◌}
+use native.Mathlib.Omega.{arith}
+use Rattle.reflection.specs.Outcome.{Outcome}
 use Rattle.reflection.specs.declared.Text.{Text}
 use Rattle.reflection.specs.declared.TypeDesc.{TypeDesc}
-use Rattle.reflection.specs.Outcome.{ok, refused, because}
-use Rattle.reflection.specs.Refusals.{not_readable, no_spelling}
 use Rattle.reflection.specs.Texts.{text_bytes}
 use Rattle.text_output.specs.Printable.{printable}
+use Rattle.spelling.specs.Parts.{MayPut, Puts}
 use Rattle.spelling.specs.Spelling.{fields_fit, type_spelling, is_spelled, bytes_of, spelled_or_refused, declared, type_name, declaration}
-use Rattle.spelling.proofs.WritePieces.{spelled_bytes, unspelled_none}
+use Rattle.spelling.proofs.WritePieces.{spelled_bytes}
+
+-- what was put for a text that may not be there is what was put for the text or the refusal
+module _ {outcome : Outcome (List ℕ)} (text : Option (List ℕ)) (before after : List ℕ) (is : outcome ≡ spelled_or_refused text) where
+  pub put_or_refused : (end : Option ℕ) → MayPut text before 0 after end → Puts outcome before after (ok_or end NoSpelling)
+  put_or_refused (Some end) put = (put.0, (is ∙ ap spelled_or_refused put.1.0, put.1.1))
+  put_or_refused None none = is ∙ ap spelled_or_refused none
+
+pub near_or_refused : (a b : ℕ) (end : Option ℕ) → IfSome end (λ r. r ≤ a) → a ≤ b → IfOk (ok_or end NoSpelling) (λ r. r ≤ b)
+near_or_refused a b (Some end) near h = omega arith
+near_or_refused a b None near h = tt
+
+-- a declaration line by the spelling of its type
+abbrev pub declared_line : List ℕ → Outcome (List ℕ) → Outcome (List ℕ)
+declared_line name (Ok type) = Ok (type ++ (32 ∷ (name ++ (59 ∷ []))))
+declared_line name (Err why) = Err why
 
 module _ (chunk edits : List ℕ) (t : TypeDesc) where
-  module _ (own : printable chunk edits t.name ≡ false) where
-    pub type_name_unprintable : type_name chunk edits t ≡ refused (because not_readable)
-    unfolding type_name
-    type_name_unprintable = rw own
-
-    pub declared_type_unprintable : (name : Text) → declaration chunk edits t name ≡ refused (because not_readable)
-    unfolding declaration
-    declared_type_unprintable name = rw own
+  pub type_name_unprintable : printable chunk edits t.name ≡ false → type_name chunk edits t ≡ Err NotReadable
+  unfolding type_name
+  type_name_unprintable e = rw e
 
   module _ (own : printable chunk edits t.name ≡ true) where
-    pub type_fields_unfit : fields_fit t ≡ false → type_name chunk edits t ≡ refused (because not_readable)
+    pub type_fields_unfit : fields_fit t ≡ false → type_name chunk edits t ≡ Err NotReadable
     unfolding type_name
     type_fields_unfit unfit = rw (own, unfit)
 
-    pub declared_fields_unfit : (name : Text) → fields_fit t ≡ false → declaration chunk edits t name ≡ refused (because not_readable)
-    unfolding declaration
-    declared_fields_unfit name unfit = rw (own, unfit)
-
     module _ (fit : fields_fit t ≡ true) where
-      pub type_unspelled : is_spelled (type_spelling (text_bytes chunk edits t.name) t) ≡ false → type_name chunk edits t ≡ refused (because no_spelling)
+      pub type_by_spelling : type_name chunk edits t ≡ spelled_or_refused (type_spelling (text_bytes chunk edits t.name) t)
       unfolding type_name
-      type_unspelled e = rw (own, fit, unspelled_none (type_spelling (text_bytes chunk edits t.name) t) e)
+      type_by_spelling = rw (own, fit)
 
       pub type_spelled : is_spelled (type_spelling (text_bytes chunk edits t.name) t) ≡ true
-          → type_name chunk edits t ≡ ok (bytes_of (type_spelling (text_bytes chunk edits t.name) t))
-      unfolding type_name
-      type_spelled e = rw (own, fit) (ap spelled_or_refused (spelled_bytes (type_spelling (text_bytes chunk edits t.name) t) e))
+          → type_name chunk edits t ≡ Ok (bytes_of (type_spelling (text_bytes chunk edits t.name) t))
+      type_spelled e = type_by_spelling ∙ ap spelled_or_refused (spelled_bytes (type_spelling (text_bytes chunk edits t.name) t) e)
 
-      module _ (name : Text) where
-        pub declared_name_unprintable : printable chunk edits name ≡ false → declaration chunk edits t name ≡ refused (because not_readable)
-        unfolding declaration
-        declared_name_unprintable unprintable = rw (own, fit, unprintable)
+  -- the declaration of a variable, by the spelling of its type
+  module _ (name : Text) where
+    pub declared_name_unprintable : printable chunk edits name ≡ false → declaration chunk edits t name ≡ Err NotReadable
+    unfolding declaration
+    declared_name_unprintable e = go (printable chunk edits t.name) (fields_fit t)
+      where
+        line : Outcome (List ℕ)
+        line = spelled_or_refused (declared (text_bytes chunk edits name) (type_spelling (text_bytes chunk edits t.name) t))
 
-        module _ (named : printable chunk edits name ≡ true) where
-          pub declared_unspelled : is_spelled (type_spelling (text_bytes chunk edits t.name) t) ≡ false
-              → declaration chunk edits t name ≡ refused (because no_spelling)
-          unfolding declaration
-          declared_unspelled e = rw (own, fit, named, unspelled_none (type_spelling (text_bytes chunk edits t.name) t) e)
+        go : (a b : Bool) → cond (a && (b && printable chunk edits name)) line (Err NotReadable) ≡ Err NotReadable
+        go true true = rw e
+        go true false = refl
+        go false b = refl
 
-          pub declared_spelled : is_spelled (type_spelling (text_bytes chunk edits t.name) t) ≡ true
-              → declaration chunk edits t name
-              ≡ ok (bytes_of (type_spelling (text_bytes chunk edits t.name) t) ++ (32 ∷ (text_bytes chunk edits name ++ (59 ∷ []))))
-          unfolding declaration
-          declared_spelled e =
-              rw (own, fit, named)
-              (ap (λ o. spelled_or_refused (declared (text_bytes chunk edits name) o)) (spelled_bytes (type_spelling (text_bytes chunk edits t.name) t) e))
+    pub declared_by_type : printable chunk edits name ≡ true
+        → declaration chunk edits t name ≡ declared_line (text_bytes chunk edits name) (type_name chunk edits t)
+    unfolding type_name declaration
+    declared_by_type e = rw e (go (printable chunk edits t.name) (fields_fit t) (type_spelling (text_bytes chunk edits t.name) t))
+      where
+        go : (a b : Bool) (o : Option (List ℕ)) → cond (a && (b && true)) (spelled_or_refused (declared (text_bytes chunk edits name) o)) (Err NotReadable)
+            ≡ declared_line (text_bytes chunk edits name) (cond (a && b) (spelled_or_refused o) (Err NotReadable))
+        go true true (Some bytes) = refl
+        go true true None = refl
+        go true false o = refl
+        go false b o = refl

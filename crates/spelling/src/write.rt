@@ -1,109 +1,54 @@
 // The spelling of a type, and the declaration line of a variable, written to a lent output.
-ghost use Rattle.std.specs.Prelude.{◌≡◌, true, [], ◌∷◌, ◌++◌, ℕ, ◌+◌, ◌≤◌, ◌<◌, ◌^◌, length};
+ghost use Rattle.std.specs.Prelude.{◌≡◌, [], ◌∷◌, ◌++◌, ◌+◌, ◌≤◌, ◌^◌, List, ℕ, length, IfSome, IfOk};
 ghost use Rattle.words.specs.Splice.{Put};
-ghost use Rattle.codes.specs.Variable.{class_enumerator, base_type_row};
+ghost use Rattle.codes.specs.Variable.{base_type_row};
+ghost use Rattle.reflection.specs.Outcome.{Outcome};
 ghost use Rattle.text_output.specs.Digits.{decimal};
 ghost use Rattle.text_output.specs.Written.{Answers};
 ghost use Rattle.text_output.specs.Cursor.{farthest};
-ghost use Rattle.spelling.specs.Names.{base_names, name_in, base_name};
-ghost use Rattle.spelling.specs.Spelling.{fields_fit, by_name, is_spelled, bytes_of, class_dimensions, dimensions, array_suffix, type_spelling};
+ghost use Rattle.spelling.specs.Names.{base_names, name_in};
+ghost use Rattle.spelling.specs.Spelling.{fields_fit, by_name, bytes_of, dimensions, array_suffix, type_spelling};
 ghost use Rattle.spelling.specs.Spelling.{type_name, declaration};
+ghost use Rattle.spelling.specs.Parts.{MayPut, Puts};
 
-use codes::{BaseType, BaseTypeCode, VariableClass, VariableClassCode};
-use reflection::{NO_SPELLING, NOT_READABLE, Text, TypeDesc, U16_LIMIT};
-use text_output::{Written, put_byte, put_bytes, put_decimal};
+use codes::{BaseType, VariableClass};
+use reflection::{Refusal, Text, TypeDesc, U16_LIMIT};
+use text_output::{put_byte, put_bytes, put_decimal};
 
 // Whether the 16-bit fields fit 16 bits.
 fn fields_fit(t: TypeDesc) -> bool
     ensures { result ≡ fields_fit t }
 {
-    t.class < U16_LIMIT
-        && (t.var_type < U16_LIMIT
-            && (t.rows < U16_LIMIT
-                && (t.columns < U16_LIMIT
-                    && (t.elements < U16_LIMIT && t.member_count < U16_LIMIT))))
+    [
+        t.class,
+        t.var_type,
+        t.rows,
+        t.columns,
+        t.elements,
+        t.member_count,
+    ]
+    .iter()
+    .all(|x| *x < U16_LIMIT)
 }
 
 // Whether a type goes by its own name.
+#[tactic(auto, unfolding(crate::specs::Spelling::by_name))]
 fn by_name(t: TypeDesc) -> bool
     ensures { result ≡ by_name t }
 {
-    t.member_count > 0 || t.class == VariableClass::Struct.to_u32()
+    t.member_count > 0 || t.class == u32::from(VariableClass::Struct)
 }
 
-// Whether a base type has a name.
-fn has_base_name(base: u32) -> bool
-    ensures { result ≡ is_spelled (base_name base) }
-{
-    match BaseType::from_u32(base) {
-        BaseTypeCode::Known(_) => true,
-        BaseTypeCode::Unknown => false,
-    }
-}
-
-// Whether a class has dimensions.
-fn class_has_dimensions(class: VariableClass) -> bool
-    ensures { (rows columns : ℕ) → result ≡ is_spelled (class_dimensions (class_enumerator class) rows columns) }
-{
-    match class {
-        VariableClass::Scalar => true,
-        VariableClass::Vector => true,
-        VariableClass::MatrixRows => true,
-        VariableClass::MatrixColumns => true,
-        VariableClass::Object => false,
-        VariableClass::Struct => false,
-        VariableClass::InterfaceClass => false,
-        VariableClass::InterfacePointer => false,
-    }
-}
-
-// Whether a type has dimensions.
-fn has_dimensions(t: TypeDesc) -> bool
-    ensures { result ≡ is_spelled (dimensions t.class t.rows t.columns) }
-{
-    match VariableClass::from_u32(t.class) {
-        VariableClassCode::Known(class) => class_has_dimensions(class),
-        VariableClassCode::Unknown => false,
-    }
-}
-
-// Whether a type with that name has a spelling.
-fn has_spelling(name: &[u8], t: TypeDesc) -> bool
-    ensures { result ≡ is_spelled (type_spelling name.now t) }
-{
-    if by_name(t) {
-        return name.len() > 0;
-    }
-    if has_base_name(t.var_type) {
-        return has_dimensions(t);
-    }
-    false
-}
-
-// Writes the name of a base type.
-fn put_base_name(out: &mut [u8], at: usize, base: BaseType) -> usize
-    requires { at ≤ farthest }
-    ensures text { Put out.old at (bytes_of (name_in base_names (base_type_row base).1)) out.new result }
-    ensures near { result ≤ at + 6 }
+// The name of a base type.
+fn base_name(base: BaseType) -> &'static [u8]
+    ensures { result.now ≡ bytes_of (name_in base_names (base_type_row base).1) }
 {
     match base {
-        BaseType::Bool => put_bytes(out, at, b"bool"),
-        BaseType::Int => put_bytes(out, at, b"int"),
-        BaseType::Float => put_bytes(out, at, b"float"),
-        BaseType::Uint => put_bytes(out, at, b"uint"),
-        BaseType::Double => put_bytes(out, at, b"double"),
-    }
-}
-
-// Writes the name of a base type by its number; nothing where it has none.
-fn put_base(out: &mut [u8], at: usize, base: u32) -> usize
-    requires { at ≤ farthest }
-    ensures text { Put out.old at (bytes_of (base_name base)) out.new result }
-    ensures near { result ≤ at + 6 }
-{
-    match BaseType::from_u32(base) {
-        BaseTypeCode::Known(known) => put_base_name(out, at, known),
-        BaseTypeCode::Unknown => at,
+        BaseType::Bool => b"bool",
+        BaseType::Int => b"int",
+        BaseType::Float => b"float",
+        BaseType::Uint => b"uint",
+        BaseType::Double => b"double",
     }
 }
 
@@ -118,39 +63,23 @@ fn put_matrix(out: &mut [u8], at: usize, rows: u32, columns: u32) -> usize
     put_decimal(out, after_x, columns)
 }
 
-// Writes what follows the base: nothing for a scalar, the columns of a vector, rows, `x` and columns of a matrix.
-fn put_class_dimensions(
-    out: &mut [u8],
-    at: usize,
-    class: VariableClass,
-    rows: u32,
-    columns: u32,
-) -> usize
+// Writes what follows the base: nothing for a scalar, the columns of a vector, rows, `x` and columns of a matrix. None for any other class.
+fn put_dimensions(out: &mut [u8], at: usize, class: u32, rows: u32, columns: u32) -> Option<usize>
     requires { at + 21 ≤ farthest }
-    ensures text { Put out.old at (bytes_of (class_dimensions (class_enumerator class) rows columns)) out.new result }
-    ensures near { result ≤ at + 21 }
+    ensures text { MayPut (dimensions class rows columns) out.old at out.new result }
+    ensures near { IfSome result (λ end. end ≤ at + 21) }
 {
-    match class {
-        VariableClass::Scalar => at,
-        VariableClass::Vector => put_decimal(out, at, columns),
-        VariableClass::MatrixRows => put_matrix(out, at, rows, columns),
-        VariableClass::MatrixColumns => put_matrix(out, at, rows, columns),
-        VariableClass::Object => at,
-        VariableClass::Struct => at,
-        VariableClass::InterfaceClass => at,
-        VariableClass::InterfacePointer => at,
-    }
-}
-
-// The same for a class by its number; nothing beyond the table.
-fn put_dimensions(out: &mut [u8], at: usize, class: u32, rows: u32, columns: u32) -> usize
-    requires { at + 21 ≤ farthest }
-    ensures text { Put out.old at (bytes_of (dimensions class rows columns)) out.new result }
-    ensures near { result ≤ at + 21 }
-{
-    match VariableClass::from_u32(class) {
-        VariableClassCode::Known(known) => put_class_dimensions(out, at, known, rows, columns),
-        VariableClassCode::Unknown => at,
+    let known = VariableClass::try_from(class).ok()?;
+    match known {
+        VariableClass::Scalar => Some(at),
+        VariableClass::Vector => Some(put_decimal(out, at, columns)),
+        VariableClass::MatrixRows | VariableClass::MatrixColumns => {
+            Some(put_matrix(out, at, rows, columns))
+        }
+        VariableClass::Object
+        | VariableClass::Struct
+        | VariableClass::InterfaceClass
+        | VariableClass::InterfacePointer => None,
     }
 }
 
@@ -168,77 +97,89 @@ fn put_suffix(out: &mut [u8], at: usize, elements: u32) -> usize
     put_byte(out, counted, b']')
 }
 
-// Writes the spelling of a type with that name, which has one.
-fn put_spelling(out: &mut [u8], at: usize, name: &[u8], t: TypeDesc) -> usize
-    requires room { at + 39 ≤ farthest }
-    requires spelled { is_spelled (type_spelling name.now t) ≡ true }
-    ensures text { Put out.old at (bytes_of (type_spelling name.now t)) out.new result }
-    ensures near { result ≤ at + 39 + length name.now }
+// Writes the spelling of a type with that name; None where it has none.
+fn put_spelling(out: &mut [u8], at: usize, name: &[u8], t: TypeDesc) -> Option<usize>
+    requires { at + 39 ≤ farthest }
+    ensures text { MayPut (type_spelling name.now t) out.old at out.new result }
+    ensures near { IfSome result (λ end. end ≤ at + 39 + length name.now) }
 {
     if by_name(t) {
-        return put_bytes(out, at, name);
+        if name.is_empty() {
+            return None;
+        }
+        return Some(put_bytes(out, at, name));
     }
-    let base = put_base(out, at, t.var_type);
-    let core = put_dimensions(out, base, t.class, t.rows, t.columns);
-    put_suffix(out, core, t.elements)
+    let known = BaseType::try_from(t.var_type).ok()?;
+    let base = put_bytes(out, at, base_name(known));
+    let core = put_dimensions(out, base, t.class, t.rows, t.columns)?;
+    Some(put_suffix(out, core, t.elements))
 }
 
-// Writes the declaration of a variable: the spelling of its type, a space, its name and a semicolon.
-fn put_declaration(out: &mut [u8], type_name: &[u8], t: TypeDesc, name: &[u8]) -> usize
-    requires room { (length type_name.now < 2 ^ 32) × (length name.now < 2 ^ 32) }
-    requires spelled { is_spelled (type_spelling type_name.now t) ≡ true }
-    ensures { Put out.old 0
-        (bytes_of (type_spelling type_name.now t) ++ (32 ∷ (name.now ++ (59 ∷ [])))) out.new result }
+// Writes the spelling of a type from the output's start, or says why it is not spelled.
+fn write_type(chunk: &[u8], edits: &[u8], t: TypeDesc, out: &mut [u8]) -> Result<usize, Refusal>
+    ensures text { Puts (type_name chunk.now edits.now t) out.old out.new result }
+    ensures near { IfOk result (λ end. end ≤ 2 ^ 33) }
 {
-    let spelled = put_spelling(out, 0, type_name, t);
-    let spaced = put_byte(out, spelled, b' ');
-    let named = put_bytes(out, spaced, name);
-    put_byte(out, named, b';')
+    if !text_output::printable(chunk, edits, t.name) || !fields_fit(t) {
+        return Err(Refusal::NotReadable);
+    }
+    let name = reflection::name_part(chunk, edits, t.name);
+    put_spelling(out, 0, name, t).ok_or(Refusal::NoSpelling)
 }
 
-// `hlsl_type_name`: the spelling of a type.
-pub fn hlsl_type_name<'a>(chunk: &'a [u8], edits: &'a [u8], t: TypeDesc, out: &mut [u8]) -> Written
-    ensures { Answers (type_name chunk.now edits.now t) out.old out.new result }
-{
-    let own = t.name;
-    if !text_output::printable(chunk, edits, own) {
-        return text_output::refuse(out, NOT_READABLE);
-    }
-    if !fields_fit(t) {
-        return text_output::refuse(out, NOT_READABLE);
-    }
-    let name = reflection::name_part(chunk, edits, own);
-    if !has_spelling(name, t) {
-        return text_output::refuse(out, NO_SPELLING);
-    }
-    let end = put_spelling(out, 0, name, t);
-    text_output::finish(out, end)
-}
-
-// The declaration line of a variable with that type and name.
-pub fn declaration<'a>(
-    chunk: &'a [u8],
-    edits: &'a [u8],
+// Writes the declaration of a variable from the output's start: the spelling of its type, a space, its name and a semicolon. Or says why not.
+fn write_declaration(
+    chunk: &[u8],
+    edits: &[u8],
     t: TypeDesc,
     name: Text,
     out: &mut [u8],
-) -> Written
+) -> Result<usize, Refusal>
+    ensures { Puts (declaration chunk.now edits.now t name) out.old out.new result }
+{
+    if !text_output::printable(chunk, edits, name) {
+        return Err(Refusal::NotReadable);
+    }
+    let spelled = write_type(chunk, edits, t, out)?;
+    let spaced = put_byte(out, spelled, b' ');
+    let named = put_bytes(out, spaced, reflection::name_part(chunk, edits, name));
+    Ok(put_byte(out, named, b';'))
+}
+
+// The answer by what was written: its length, where all of it fitted; a refusal zeroes the output.
+fn answer(out: &mut [u8], written: Result<usize, Refusal>) -> Result<usize, Refusal>
+    ensures { (outcome : Outcome (List ℕ)) (lent : List ℕ) → length out.old ≡ length lent → Puts outcome lent out.old written
+        → Answers outcome lent out.new result }
+{
+    match written {
+        Ok(at) => text_output::finish(out, at),
+        Err(refusal) => text_output::refuse(out, refusal),
+    }
+}
+
+// `hlsl_type_name`: the spelling of a type.
+pub fn hlsl_type_name(
+    chunk: &[u8],
+    edits: &[u8],
+    t: TypeDesc,
+    out: &mut [u8],
+) -> Result<usize, Refusal>
+    ensures { Answers (type_name chunk.now edits.now t) out.old out.new result }
+{
+    let written = write_type(chunk, edits, t, out);
+    answer(out, written)
+}
+
+// The declaration line of a variable with that type and name.
+pub fn declaration(
+    chunk: &[u8],
+    edits: &[u8],
+    t: TypeDesc,
+    name: Text,
+    out: &mut [u8],
+) -> Result<usize, Refusal>
     ensures { Answers (declaration chunk.now edits.now t name) out.old out.new result }
 {
-    let own = t.name;
-    if !text_output::printable(chunk, edits, own) {
-        return text_output::refuse(out, NOT_READABLE);
-    }
-    if !fields_fit(t) {
-        return text_output::refuse(out, NOT_READABLE);
-    }
-    if !text_output::printable(chunk, edits, name) {
-        return text_output::refuse(out, NOT_READABLE);
-    }
-    let type_name = reflection::name_part(chunk, edits, own);
-    if !has_spelling(type_name, t) {
-        return text_output::refuse(out, NO_SPELLING);
-    }
-    let end = put_declaration(out, type_name, t, reflection::name_part(chunk, edits, name));
-    text_output::finish(out, end)
+    let written = write_declaration(chunk, edits, t, name, out);
+    answer(out, written)
 }

@@ -1,4 +1,5 @@
 -- Laws of reading a spelling; what is spelled reads back.
+pub mod ParseBase
 pub mod ParseParts
 pub mod ParseNumbers
 pub mod ParseTypes

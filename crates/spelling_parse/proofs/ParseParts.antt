@@ -1,122 +1,95 @@
--- The parts of a spelling: `first_between` finds the index at which a text is parted, before its first digit or at its first '[' or 'x'.
-use mathlib.Core.Path.{◌≡◌, refl, ap, sym, ◌∙◌}
-use mathlib.Core.Bool.{Bool, true, false, ◌&&◌, cond}
+-- The parts of a spelling: where the code finds the first byte c, or the first digit, the definitions part the text.
+use Rattle.std.proofs.lemmas.List.Sums.{prefix_len-le-length}
+use Rattle.std.specs.List.{position_or_len, position}
+use Rattle.std.specs.Option.{unwrap_or}
+use Rattle.std.specs.Prelude.{Option, None, Some}
+use mathlib.Core.Path.{◌≡◌, refl, ap, ◌∙◌}
+use mathlib.Core.Bool.{Bool, true, false, not, cond}
 use mathlib.Core.List.{List, [], ◌∷◌}
-use mathlib.Core.Option.{Option, none, some}
-use Prim.Native.Nat.{ℕ, zero, suc, ◌+◌, ◌-◌, ◌<◌, ◌≤◌}
+use Prim.Native.Nat.{ℕ, zero, suc, ◌+◌, ◌<◌, ◌≤◌}
 use native.Mathlib.Numerals.{add-one}
 use native.Mathlib.Omega.{arith}
-use borrow.Author.Tests.{le-leb, lt-leb, leb-true, leb-false, eq-eqb, ne_eqb}
-use lib.Dec.{eqb, leb}
-use lib.ListN.{length, get_or, take, drop, length-drop, drop_of_length-le}
-use lib.Seq.{drop-cons, take_all}
+use borrow.Author.Tests.{ltb-false, eq-eqb, ne_eqb}
+use lib.Dec.{eqb, ltb}
+use lib.ListN.{length, get_or, take, drop}
 use Rattle.tables.specs.Nodes.{◌>>=◌}
 use Rattle.spelling_parse.specs.Grammar.{is_digit, after_byte, split_once, without_last, before_digit, from_digit}
-use Rattle.spelling_parse.specs.GrammarParts.{first_between}
 
--- the part of a text from index a up to its end
-pub part_from : (a : ℕ) (text : List ℕ) → take (length text - a) (drop a text) ≡ drop a text
-part_from a text = take_all (length text - a) (drop a text) (omega (arith, length-drop a text))
+-- The first byte c parts a text, at its index i; a text without it is not parted.
+split_at_first : (c : ℕ) (text : List ℕ) (i : ℕ) → i < length text → get_or text i 0 ≡ c → ((k : ℕ) → k < i → get_or text k 0 ≡ c → ⊥)
+    → split_once c text ≡ Some (take i text, drop (suc i) text)
+unfolding split_once
+split_at_first c [] i h e f = absurd (omega arith)
+split_at_first c (b ∷ bs) zero h e f = rw (eq-eqb b c e)
+split_at_first c (b ∷ bs) (suc i) h e f =
+    rw (ne_eqb b c (f 0 (omega arith))) (ap (after_byte b) (split_at_first c bs i (omega arith) e (λ k g. f (suc k) (omega arith))))
 
--- a byte lies from low to high, or it does not
-pub between : (low high b : ℕ) → low ≤ b → b ≤ high → (leb low b && leb b high) ≡ true
-between low high b h g = rw (le-leb low b h, le-leb b high g)
+pub split_absent : (c : ℕ) (text : List ℕ) → ((k : ℕ) → k < length text → get_or text k 0 ≡ c → ⊥) → split_once c text ≡ None
+unfolding split_once
+split_absent c [] f = refl
+split_absent c (b ∷ bs) f = rw (ne_eqb b c (f 0 (omega arith))) (ap (after_byte b) (split_absent c bs (λ k g. f (suc k) (omega arith))))
 
-pub below : (low high b : ℕ) → b < low → (leb low b && leb b high) ≡ false
-below low high b h = rw (lt-leb low b h)
+pub split_found : (c : ℕ) (text : List ℕ) (i : ℕ) → i < length text → get_or text i 0 ≡ c → ((k : ℕ) → k < i → get_or text k 0 ≡ c → ⊥)
+    → split_once c text ≡ Some (take i text, drop (i + 1) text)
+split_found c text i h e f = split_at_first c text i h e f ∙ rw (add-one i)
 
-pub above : (low high b : ℕ) → high < b → (leb low b && leb b high) ≡ false
-above low high b h = go (leb low b)
+-- The base is what stands before the first digit, the dimensions what stands from it on.
+first_digit : List ℕ → ℕ
+first_digit text = position_or_len is_digit text
+
+one_more : (n : ℕ) → 1 + n ≡ suc n
+one_more n = omega arith
+
+before_first_digit : (text : List ℕ) → take (first_digit text) text ≡ before_digit text
+unfolding first_digit before_digit
+before_first_digit [] = refl
+before_first_digit (b ∷ bs) = go (is_digit b) (before_first_digit bs)
   where
-    go : (t : Bool) → (t && leb b high) ≡ false
-    go true = lt-leb b high h
-    go false = refl
-
--- The scan at index i.
-module _ (low high : ℕ) (text : List ℕ) (i : ℕ) where
-  pub first_between_end : length text ≤ i → first_between low high (drop i text) ≡ 0
-  unfolding first_between
-  first_between_end h = rw (drop_of_length-le text h)
-
-  pub first_between_here : i < length text → (leb low (get_or text i 0) && leb (get_or text i 0) high) ≡ true → first_between low high (drop i text) ≡ 0
-  unfolding first_between
-  first_between_here h e = rw (drop-cons text i 0 h, e)
-
-  pub first_between_later : i < length text → (leb low (get_or text i 0) && leb (get_or text i 0) high) ≡ false
-      → first_between low high (drop i text) ≡ suc (first_between low high (drop (i + 1) text))
-  unfolding first_between
-  first_between_later h e = rw (drop-cons text i 0 h, e, add-one i)
-
--- the base is what stands before the first digit, the dimensions what stands from it on
-pub before_digit_lem : (text : List ℕ) → before_digit text ≡ take (first_between 48 57 text) text
-unfolding before_digit first_between
-before_digit_lem [] = refl
-before_digit_lem (b ∷ bs) = go (is_digit b) (before_digit_lem bs)
-  where
-    go : (t : Bool) → before_digit bs ≡ take (first_between 48 57 bs) bs
-        → cond t [] (b ∷ before_digit bs) ≡ take (cond t 0 (suc (first_between 48 57 bs))) (b ∷ bs)
+    go : (t : Bool) → take (first_digit bs) bs ≡ before_digit bs
+        → take (cond (not t) (1 + first_digit bs) 0) (b ∷ bs) ≡ cond t [] (b ∷ before_digit bs)
     go true e = refl
-    go false e = ap (λ (l : List ℕ). b ∷ l) e
+    go false e = rw (one_more (first_digit bs)) (ap (λ (l : List ℕ). b ∷ l) e)
 
-pub from_digit_lem : (text : List ℕ) → from_digit text ≡ drop (first_between 48 57 text) text
-unfolding from_digit first_between
-from_digit_lem [] = refl
-from_digit_lem (b ∷ bs) = go (is_digit b) (from_digit_lem bs)
+from_first_digit : (text : List ℕ) → drop (first_digit text) text ≡ from_digit text
+unfolding first_digit from_digit
+from_first_digit [] = refl
+from_first_digit (b ∷ bs) = go (is_digit b) (from_first_digit bs)
   where
-    go : (t : Bool) → from_digit bs ≡ drop (first_between 48 57 bs) bs
-        → cond t (b ∷ bs) (from_digit bs) ≡ drop (cond t 0 (suc (first_between 48 57 bs))) (b ∷ bs)
+    go : (t : Bool) → drop (first_digit bs) bs ≡ from_digit bs
+        → drop (cond (not t) (1 + first_digit bs) 0) (b ∷ bs) ≡ cond t (b ∷ bs) (from_digit bs)
     go true e = refl
-    go false e = e
+    go false e = rw (one_more (first_digit bs)) e
 
--- from c to c there is only c
-only : (c b : ℕ) → (leb c b && leb b c) ≡ eqb b c
-only c b = go (leb c b) refl (leb b c) refl
-  where
-    go : (s : Bool) → leb c b ≡ s → (t : Bool) → leb b c ≡ t → (s && t) ≡ eqb b c
-    go false e t f = sym (ne_eqb b c (λ z. let h : b < c = leb-false c b e in omega arith))
-    go true e false f = sym (ne_eqb b c (λ z. let h : c < b = leb-false b c f in omega arith))
-    go true e true f = sym (eq-eqb b c (let h : c ≤ b = leb-true c b e in let g : b ≤ c = leb-true b c f in omega arith))
+module _ (text : List ℕ) {found : Option ℕ} (is : found ≡ position is_digit text) where
+  at_first_digit : unwrap_or found (length text) ≡ first_digit text
+  unfolding first_digit
+  at_first_digit = rw is (go (ltb (first_digit text) (length text)) refl)
+    where
+      go : (t : Bool) → ltb (first_digit text) (length text) ≡ t → unwrap_or (cond t (Some (first_digit text)) None) (length text) ≡ first_digit text
+      go true e = refl
+      go false e =
+          let past : length text ≤ first_digit text = ltb-false (first_digit text) (length text) e in
+          omega (arith, prefix_len-le-length (λ b. not (is_digit b)) text)
 
--- The first byte c parts a text, at the index that `first_between` finds from c to c; no byte is c where that is the length.
-pub split_interned_none : (c : ℕ) (text : List ℕ) → first_between c c text ≡ length text → split_once c text ≡ none
-unfolding split_once first_between
-split_interned_none c [] e = refl
-split_interned_none c (b ∷ bs) e =
-    go (eqb b c) (ap (λ (t : Bool). cond t 0 (suc (first_between c c bs))) (sym (only c b)) ∙ e) (split_interned_none c bs)
-  where
-    go : (t : Bool) → cond t 0 (suc (first_between c c bs)) ≡ suc (length bs) → (first_between c c bs ≡ length bs → split_once c bs ≡ none)
-        → cond t (some ([], bs)) (after_byte b (split_once c bs)) ≡ none
-    go true f again = absurd (omega arith)
-    go false f again = ap (after_byte b) (again (omega arith))
+  pub parted_before : take (unwrap_or found (length text)) text ≡ before_digit text
+  parted_before = rw at_first_digit (before_first_digit text)
 
-pub split_interned_some : (c : ℕ) (text : List ℕ) (i : ℕ) → i ≡ first_between c c text → i < length text
-    → split_once c text ≡ some (take i text, drop (suc i) text)
-unfolding split_once first_between
-split_interned_some c [] i e h = absurd (omega arith)
-split_interned_some c (b ∷ bs) i e h =
-    go (eqb b c) i (e ∙ ap (λ (t : Bool). cond t 0 (suc (first_between c c bs))) (only c b)) h (split_interned_some c bs)
-  where
-    go : (t : Bool) (i : ℕ) → i ≡ cond t 0 (suc (first_between c c bs)) → i < suc (length bs)
-        → ((j : ℕ) → j ≡ first_between c c bs → j < length bs → split_once c bs ≡ some (take j bs, drop (suc j) bs))
-        → cond t (some ([], bs)) (after_byte b (split_once c bs)) ≡ some (take i (b ∷ bs), drop (suc i) (b ∷ bs))
-    go true zero f h again = refl
-    go true (suc j) f h again = absurd (omega arith)
-    go false zero f h again = absurd (omega arith)
-    go false (suc j) f h again = ap (after_byte b) (again j (omega arith) (omega arith))
+  pub parted_from : drop (unwrap_or found (length text)) text ≡ from_digit text
+  parted_from = rw at_first_digit (from_first_digit text)
 
 -- all but the last byte, at index i
 pub without_last_lem : (c : ℕ) (text : List ℕ) (i : ℕ) → length text ≡ suc i
-    → without_last c text ≡ cond (eqb (get_or text i 0) c) (some (take i text)) none
+    → without_last c text ≡ cond (eqb (get_or text i 0) c) (Some (take i text)) None
 unfolding without_last ◌>>=◌
 without_last_lem c [] i e = absurd (omega arith)
 without_last_lem c (b ∷ []) zero e = refl
 without_last_lem c (b ∷ []) (suc i) e = absurd (omega arith)
 without_last_lem c (b ∷ x ∷ xs) zero e = absurd (omega arith)
 without_last_lem c (b ∷ x ∷ xs) (suc i) e =
-    ap (λ (o : Option (List ℕ)). o >>= (λ others. some (b ∷ others))) (without_last_lem c (x ∷ xs) i (omega arith))
+    ap (λ (o : Option (List ℕ)). o >>= (λ others. Some (b ∷ others))) (without_last_lem c (x ∷ xs) i (omega arith))
     ∙ go (eqb (get_or (x ∷ xs) i 0) c)
   where
     go : (t : Bool)
-        → (cond t (some (take i (x ∷ xs))) none >>= (λ others. some (b ∷ others))) ≡ cond t (some (take (suc i) (b ∷ x ∷ xs))) none
+        → (cond t (Some (take i (x ∷ xs))) None >>= (λ others. Some (b ∷ others))) ≡ cond t (Some (take (suc i) (b ∷ x ∷ xs))) None
     go true = refl
     go false = refl

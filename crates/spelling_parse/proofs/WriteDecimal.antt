@@ -1,9 +1,9 @@
 -- A number below 65,536 in decimal reads as that number: it is one digit or more and nothing else, and each digit put before the others is what the
 -- reader takes up first.
+use Rattle.std.specs.Prelude.{Some}
 use mathlib.Core.Path.{◌≡◌, ap, ◌∙◌}
 use mathlib.Core.Bool.{true}
 use mathlib.Core.List.{List, [], ◌∷◌, ◌++◌}
-use mathlib.Core.Option.{some}
 use Prim.Native.Nat.{ℕ, zero, suc, ◌+◌, ◌-◌, ◌*◌, ◌/◌, ◌%◌, ◌^◌, ◌≤◌, ◌<◌}
 use native.Mathlib.Decide.{dec_le}
 use native.Mathlib.Nat.{div-lt_iff_lt-mul, pow-suc}
@@ -79,7 +79,7 @@ digits_value_lem (suc most) n after h =
           ∙ ap (digits_value after) e
     ]
 
-number_of_digits : (text : List ℕ) (n : ℕ) → Each Digit text → 0 < length text → digits_value text 0 ≡ some n → n < u16_limit → number text ≡ some n
+number_of_digits : (text : List ℕ) (n : ℕ) → Each Digit text → 0 < length text → digits_value text 0 ≡ Some n → n < u16_limit → number text ≡ Some n
 unfolding number ◌>>=◌
 number_of_digits [] n each some-digit value low = absurd (omega arith)
 number_of_digits (b ∷ bs) n each some-digit value low = rw (ne_eqb b 43 (λ e. omega arith), value, lt-ltb n u16_limit low)
@@ -97,9 +97,9 @@ module _ (n : ℕ) where
         | no h ↦ rw (digits_last decimal_digit 10 9 n [] (omega arith)) (omega arith)
       ]
 
-  decimal_value : n < u16_limit → digits_value (decimal n) 0 ≡ some n
+  decimal_value : n < u16_limit → digits_value (decimal n) 0 ≡ Some n
   unfolding decimal digits_value
   decimal_value h = digits_value_lem 10 n [] (omega arith)
 
-  pub decimal_number : n < u16_limit → number (decimal n) ≡ some n
+  pub decimal_number : n < u16_limit → number (decimal n) ≡ Some n
   decimal_number h = number_of_digits (decimal n) n decimal_digits decimal_some (decimal_value h) h

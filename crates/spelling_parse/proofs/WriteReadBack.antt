@@ -1,9 +1,9 @@
 -- The spelling of a scalar, vector or matrix reads back as its numbers: class, base type, rows, columns and elements. A matrix by rows (class 2) comes
 -- back as one by columns (class 3), since the spelling does not tell them apart. The spelling comes apart where it was put together.
+use Rattle.std.specs.Prelude.{Ok, None, Some}
 use mathlib.Core.Path.{◌≡◌, refl, sym, ap, ◌∙◌}
 use mathlib.Core.Bool.{Bool, true, false, ◌&&◌, cond, true≢false}
 use mathlib.Core.List.{List, [], ◌∷◌, ◌++◌, append_assoc}
-use mathlib.Core.Option.{none, some}
 use Prim.Native.Nat.{ℕ, ◌<◌}
 use native.Mathlib.Decide.{ℕ_discrete}
 use native.Mathlib.Omega.{arith}
@@ -19,7 +19,6 @@ use Rattle.reflection.specs.Limits.{u16_limit}
 use Rattle.reflection.specs.declared.TypeDesc.{TypeDesc}
 use Rattle.reflection.specs.Texts.{in_chunk, text_bytes}
 use Rattle.reflection.proofs.Texts.{place_in_chunk, bytes_in_chunk}
-use Rattle.reflection.specs.Outcome.{ok}
 use Rattle.text_output.specs.Digits.{decimal}
 use Rattle.text_output.specs.Printable.{printable}
 use Rattle.spelling_parse.specs.declared.TypeSpelling.{TypeSpelling}
@@ -51,7 +50,7 @@ read_back t = record {
 
 -- a type has a spelling, and it reads back
 abbrev pub ReadsBack : List ℕ → List ℕ → TypeDesc → Type 0
-ReadsBack chunk edits t = (bytes : List ℕ) × ((type_name chunk edits t ≡ ok bytes) × (parse_type bytes ≡ some (read_back t)))
+ReadsBack chunk edits t = (bytes : List ℕ) × ((type_name chunk edits t ≡ Ok bytes) × (parse_type bytes ≡ Some (read_back t)))
 
 -- a base name is letters: none is a digit or a `[`
 abbrev Letter : ℕ → Type 0
@@ -70,7 +69,7 @@ letter_no_digit : (b : ℕ) → Letter b → NoDigit b
 letter_no_digit b h = rw (le-leb 48 b (omega arith), lt-leb b 57 (omega arith))
 
 -- a base name reads back as its number
-base_unnamed : (n : ℕ) → (1 ≡ n → ⊥) → (2 ≡ n → ⊥) → (3 ≡ n → ⊥) → (19 ≡ n → ⊥) → (39 ≡ n → ⊥) → base_name n ≡ none
+base_unnamed : (n : ℕ) → (1 ≡ n → ⊥) → (2 ≡ n → ⊥) → (3 ≡ n → ⊥) → (19 ≡ n → ⊥) → (39 ≡ n → ⊥) → base_name n ≡ None
 unfolding base_name
 base_unnamed n a b c d e = rw (ne_eqb 1 n a, ne_eqb 2 n b, ne_eqb 3 n c, ne_eqb 19 n d, ne_eqb 39 n e)
 
@@ -94,7 +93,7 @@ base_cases P bool int float uint double n e =
     ]
 
 BaseReads : ℕ → Type 0
-BaseReads n = (base_number (bytes_of (base_name n)) ≡ some n) × (letters_only (bytes_of (base_name n)) ≡ true)
+BaseReads n = (base_number (bytes_of (base_name n)) ≡ Some n) × (letters_only (bytes_of (base_name n)) ≡ true)
 
 base_reads : (n : ℕ) → is_spelled (base_name n) ≡ true → BaseReads n
 unfolding BaseReads base_name base_number same_bytes letters_only
@@ -102,7 +101,7 @@ base_reads = base_cases BaseReads (refl, refl) (refl, refl) (refl, refl) (refl, 
 
 -- base, dimensions and suffix, read back
 module _ (n elements : ℕ) (dims : List ℕ) (s : Shape) (named : is_spelled (base_name n) ≡ true) (low : elements < u16_limit)
-    (begins : FromDigit dims) (unopened : Each (Other 91) dims) (shaped : shape dims ≡ some s) where
+    (begins : FromDigit dims) (unopened : Each (Other 91) dims) (shaped : shape dims ≡ Some s) where
   name : List ℕ
   name = bytes_of (base_name n)
 
@@ -111,7 +110,7 @@ module _ (n elements : ℕ) (dims : List ℕ) (s : Shape) (named : is_spelled (b
   letters = letters_each name (base_reads n named).1
 
   pub pieces_read_back : parse_type (bytes_of (base_name n) ++ (dims ++ array_suffix elements))
-      ≡ some (record { class = s.0; base = n; rows = s.1.0; columns = s.1.1; elements = elements })
+      ≡ Some (record { class = s.0; base = n; rows = s.1.0; columns = s.1.1; elements = elements })
   unfolding name BaseReads
   pieces_read_back =
       ap parse_type (sym (append_assoc name dims (array_suffix elements)))
@@ -156,8 +155,8 @@ module _ (chunk edits : List ℕ) (t : TypeDesc) (alone : t.member_count ≡ 0) 
   unfolding by_name
   by_numbers_lem low = rw (alone, ne_eqb t.class 5 (λ e. omega arith))
 
-  by_dimensions : (dims : List ℕ) (s : Shape) → t.class < 4 → dimensions t.class t.rows t.columns ≡ some dims → FromDigit dims
-      → Each (Other 91) dims → shape dims ≡ some s
+  by_dimensions : (dims : List ℕ) (s : Shape) → t.class < 4 → dimensions t.class t.rows t.columns ≡ Some dims → FromDigit dims
+      → Each (Other 91) dims → shape dims ≡ Some s
       → record { class = s.0; base = t.var_type; rows = s.1.0; columns = s.1.1; elements = t.elements } ≡ read_back t → ReadsBack chunk edits t
   by_dimensions dims s low is-dims begins unopened shaped same =
       let own = text_bytes chunk edits t.name in
@@ -165,7 +164,7 @@ module _ (chunk edits : List ℕ) (t : TypeDesc) (alone : t.member_count ≡ 0) 
       let spelled : is_spelled (type_spelling own t) ≡ true = numbers_spelled own t numbers named ∙ ap is_spelled is-dims in
       let pieces = numbers_bytes own t numbers spelled ∙ ap (λ o. bytes_of (base_name t.var_type) ++ (bytes_of o ++ array_suffix t.elements)) is-dims in
       let read = pieces_read_back t.var_type t.elements dims s named (fields_below t fit).elements begins unopened shaped in
-      (bytes_of (type_spelling own t), (type_spelled chunk edits t printed fit spelled, ap parse_type pieces ∙ read ∙ ap some same))
+      (bytes_of (type_spelling own t), (type_spelled chunk edits t printed fit spelled, ap parse_type pieces ∙ read ∙ ap Some same))
 
   matrix_reads_back : 1 < t.class → t.class < 4 → cond (eqb t.class 2) 3 t.class ≡ 3 → ReadsBack chunk edits t
   matrix_reads_back low high class =

@@ -1,9 +1,9 @@
 -- A text that is put together from a base name, dimensions and an array suffix comes apart again where it was put together: no byte before a seam is
 -- the one that the reader looks for.
+use Rattle.std.specs.Prelude.{None, Some}
 use mathlib.Core.Path.{◌≡◌, refl, ◌∙◌}
 use mathlib.Core.Bool.{true, false}
 use mathlib.Core.List.{List, [], ◌∷◌, ◌++◌, append-nil}
-use mathlib.Core.Option.{none, some}
 use Prim.Native.Nat.{ℕ, ◌<◌}
 use native.Mathlib.Decide.{ℕ_discrete}
 use native.Mathlib.Omega.{arith}
@@ -21,17 +21,17 @@ use Rattle.spelling_parse.proofs.WriteDecimal.{Each, each_so, Digit, digit_is, d
 abbrev pub Other : ℕ → ℕ → Type 0
 Other c b = b ≡ c → ⊥
 
-pub unsplit : (c : ℕ) (xs : List ℕ) → Each (Other c) xs → split_once c xs ≡ none
+pub unsplit : (c : ℕ) (xs : List ℕ) → Each (Other c) xs → split_once c xs ≡ None
 unfolding split_once
 unsplit c [] each = refl
 unsplit c (x ∷ xs) each = rw (ne_eqb x c each.0, unsplit c xs each.1)
 
-pub split_at : (c : ℕ) (xs ys : List ℕ) → Each (Other c) xs → split_once c (xs ++ (c ∷ ys)) ≡ some (xs, ys)
+pub split_at : (c : ℕ) (xs ys : List ℕ) → Each (Other c) xs → split_once c (xs ++ (c ∷ ys)) ≡ Some (xs, ys)
 unfolding split_once
 split_at c [] ys each = rw (eq-eqb c c refl)
 split_at c (x ∷ xs) ys each = rw (ne_eqb x c each.0, split_at c xs ys each.1)
 
-pub last_taken : (c : ℕ) (xs : List ℕ) → without_last c (xs ++ (c ∷ [])) ≡ some xs
+pub last_taken : (c : ℕ) (xs : List ℕ) → without_last c (xs ++ (c ∷ [])) ≡ Some xs
 unfolding without_last ◌>>=◌
 last_taken c [] = rw (eq-eqb c c refl)
 last_taken c (x ∷ []) = rw (eq-eqb c c refl)
@@ -70,14 +70,14 @@ shape_some [] h = absurd (omega arith)
 shape_some (b ∷ bs) h = refl
 
 -- the dimensions of a vector and of a matrix
-pub vector_shape : (columns : ℕ) → columns < u16_limit → shape (decimal columns) ≡ some (1, (1, columns))
+pub vector_shape : (columns : ℕ) → columns < u16_limit → shape (decimal columns) ≡ Some (1, (1, columns))
 unfolding ◌>>=◌
 vector_shape columns h =
     shape_some (decimal columns) (decimal_some columns)
     ∙ rw (unsplit 120 (decimal columns) (digits_other 120 (omega arith) (decimal columns) (decimal_digits columns)), decimal_number columns h)
 
 pub matrix_shape : (rows columns : ℕ) → rows < u16_limit → columns < u16_limit
-    → shape (decimal rows ++ (120 ∷ decimal columns)) ≡ some (3, (rows, columns))
+    → shape (decimal rows ++ (120 ∷ decimal columns)) ≡ Some (3, (rows, columns))
 unfolding ◌>>=◌
 matrix_shape rows columns h k =
     shape_some (decimal rows ++ (120 ∷ decimal columns)) (omega (arith, length-append (decimal rows) (120 ∷ decimal columns)))
@@ -108,8 +108,8 @@ suffix_parted xs elements each h =
     ]
 
 -- a base name and dimensions
-pub core_parted : (name dims : List ℕ) (base elements : ℕ) (s : Shape) → Each NoDigit name → FromDigit dims → base_number name ≡ some base
-    → shape dims ≡ some s
-    → core (name ++ dims) elements ≡ some (record { class = s.0; base = base; rows = s.1.0; columns = s.1.1; elements = elements })
+pub core_parted : (name dims : List ℕ) (base elements : ℕ) (s : Shape) → Each NoDigit name → FromDigit dims → base_number name ≡ Some base
+    → shape dims ≡ Some s
+    → core (name ++ dims) elements ≡ Some (record { class = s.0; base = base; rows = s.1.0; columns = s.1.1; elements = elements })
 unfolding core ◌>>=◌
 core_parted name dims base elements s letters digits b d = rw (before_digits name dims letters digits, b, from_digits name dims letters digits, d)

@@ -1,199 +1,154 @@
 // Reading a spelling: the numbers that a text such as `float4x3[2]` says (`parse_hlsl_type` in the Rust).
-ghost use Rattle.std.specs.Prelude.{◌≡◌, ◌≤◌, length};
-ghost use Rattle.codes.specs.Variable.{class_row};
-ghost use Rattle.reflection.specs.Outcome.{because};
-ghost use Rattle.reflection.specs.Refusals.{no_spelling};
-ghost use Rattle.spelling_parse.specs.Grammar.{number, shape, core, parse_type, spelled_type};
-ghost use Rattle.spelling_parse.specs.GrammarParts.{first_between, digits_as_u16, elements_of, with_shape, with_numbers, number_read, base_read};
+ghost use Rattle.std.specs.Prelude.{◌≡◌, Some, None, MatchOption};
 ghost use Rattle.spelling.specs.Names.{base_number};
+ghost use Rattle.spelling_parse.specs.Grammar.{split_once, before_digit, from_digit, without_plus, number, shape, core, parse_type, spelled_type};
+ghost use Rattle.spelling_parse.specs.GrammarParts.{elements_of, base_read, dimensions_read};
 
-use crate::{SpelledType, TypeSpelling};
-use codes::{BaseType, BaseTypeCode, VariableClass};
-use reflection::{NO_SPELLING, Refusal, U16_LIMIT};
-use text::same_text;
+use crate::TypeSpelling;
+use codes::{BaseType, VariableClass};
+use reflection::{Refusal, U16_LIMIT};
 
-// What a part of the text says: a number, or nothing that is understood.
+// What follows the base.
 #[derive(Clone, Copy)]
-enum Number {
-    Value(u32),
-    NotUnderstood,
+struct Dimensions {
+    class: VariableClass,
+    rows: u32,
+    columns: u32,
 }
 
-// The index of the first byte from `low` to `high`; the length where there is none.
-fn first_between(text: &[u8], low: u8, high: u8) -> usize
-    ensures { (result ≡ first_between low high text.now) × (result ≤ length text.now) }
+// The bytes before and after the first byte c; None where it does not occur.
+fn split_once(text: &[u8], c: u8) -> Option<(&[u8], &[u8])>
+    ensures { MatchOption result (split_once c text.now ≡ None) (λ p. split_once c text.now ≡ Some (p.0.now, p.1.now)) }
 {
-    let mut i = 0;
-    while i < text.len() {
-        let b = text[i];
-        if low <= b {
-            if b <= high {
-                return i;
-            }
-        }
-        i += 1;
-    }
-    i
+    let i = text.iter().position(|b| *b == c)?;
+    Some((&text[..i], &text[i + 1..]))
 }
 
-// One decimal digit or more, a number that fits 16 bits.
-fn parse_digits(digits: &[u8]) -> Number
-    ensures { result ≡ number_read (digits_as_u16 digits.now) }
+// The bytes before the first digit, and those from it on.
+fn split_at_digit(text: &[u8]) -> (&[u8], &[u8])
+    ensures before { result.0.now ≡ before_digit text.now }
+    ensures from { result.1.now ≡ from_digit text.now }
 {
-    if digits.len() == 0 {
-        return Number::NotUnderstood;
+    let digit = text.iter().position(|b| b.is_ascii_digit());
+    text.split_at(digit.unwrap_or(text.len()))
+}
+
+// A text without a leading `+`.
+fn without_plus(text: &[u8]) -> &[u8]
+    ensures { result.now ≡ without_plus text.now }
+{
+    match text {
+        [b'+', others @ ..] => others,
+        _ => text,
     }
-    let mut value: u32 = 0;
-    let mut i = 0;
-    while i < digits.len() {
-        let b = digits[i];
-        if b < b'0' {
-            return Number::NotUnderstood;
+}
+
+// A number that fits 16 bits: one decimal digit or more, after a `+` or not.
+// (`parse` of a `u16` reads the same, but from a `&str`; with that, reading a spelling took a fifth longer.)
+fn parse_number(text: &[u8]) -> Option<u32>
+    ensures { result ≡ number text.now }
+{
+    let digits = without_plus(text);
+    if digits.is_empty() {
+        return None;
+    }
+    let mut value = 0;
+    for b in digits {
+        if !b.is_ascii_digit() {
+            return None;
         }
-        if b > b'9' {
-            return Number::NotUnderstood;
-        }
-        value = 10 * value + (b - b'0') as u32;
+        value = 10 * value + u32::from(b - b'0');
         if value >= U16_LIMIT {
-            return Number::NotUnderstood;
+            return None;
         }
-        i += 1;
     }
-    Number::Value(value)
-}
-
-// The same after a `+`, which may be left out.
-fn parse_number(text: &[u8]) -> Number
-    ensures { result ≡ number_read (number text.now) }
-{
-    if text.len() == 0 {
-        return Number::NotUnderstood;
-    }
-    if text[0] == b'+' {
-        return parse_digits(&text[1..]);
-    }
-    parse_digits(text)
+    Some(value)
 }
 
 // The base type of a name.
-fn parse_base(name: &[u8]) -> BaseTypeCode
+#[tactic(auto, using(crate::proofs::ParseBase::bases))]
+fn parse_base(name: &[u8]) -> Option<BaseType>
     ensures { base_read result ≡ base_number name.now }
 {
-    if same_text(name, b"bool") {
-        return BaseTypeCode::Known(BaseType::Bool);
+    match name {
+        b"bool" => Some(BaseType::Bool),
+        b"int" => Some(BaseType::Int),
+        b"float" => Some(BaseType::Float),
+        b"uint" => Some(BaseType::Uint),
+        b"double" => Some(BaseType::Double),
+        _ => None,
     }
-    if same_text(name, b"int") {
-        return BaseTypeCode::Known(BaseType::Int);
-    }
-    if same_text(name, b"float") {
-        return BaseTypeCode::Known(BaseType::Float);
-    }
-    if same_text(name, b"uint") {
-        return BaseTypeCode::Known(BaseType::Uint);
-    }
-    if same_text(name, b"double") {
-        return BaseTypeCode::Known(BaseType::Double);
-    }
-    BaseTypeCode::Unknown
 }
 
-// The number of elements, from what follows the first `[`.
-fn parse_elements(rest: &[u8]) -> Number
-    ensures { result ≡ number_read (elements_of rest.now) }
+// A scalar, vector or matrix by the text that follows the base.
+fn parse_dimensions(text: &[u8]) -> Option<Dimensions>
+    ensures { dimensions_read result ≡ shape text.now }
 {
-    if rest.len() == 0 {
-        return Number::NotUnderstood;
+    if text.is_empty() {
+        return Some(Dimensions {
+            class: VariableClass::Scalar,
+            rows: 1,
+            columns: 1,
+        });
     }
-    let last = rest.len() - 1;
-    if rest[last] != b']' {
-        return Number::NotUnderstood;
+    match split_once(text, b'x') {
+        Some((rows, columns)) => Some(Dimensions {
+            class: VariableClass::MatrixColumns,
+            rows: parse_number(rows)?,
+            columns: parse_number(columns)?,
+        }),
+        None => Some(Dimensions {
+            class: VariableClass::Vector,
+            rows: 1,
+            columns: parse_number(text)?,
+        }),
     }
-    parse_number(&rest[..last])
 }
 
-// A spelling that is not understood.
-fn not_understood() -> SpelledType
-    ensures { result ≡ SpelledType.Refused (because no_spelling) }
+// A type without its array suffix.
+fn parse_core(text: &[u8], elements: u32) -> Option<TypeSpelling>
+    ensures { result ≡ core text.now elements }
 {
-    SpelledType::Refused(Refusal {
-        number: NO_SPELLING,
-    })
-}
-
-// A type by its numbers, if rows and columns were understood.
-fn with_numbers(
-    class: VariableClass,
-    base: u32,
-    rows: Number,
-    columns: Number,
-    elements: u32,
-) -> SpelledType
-    ensures { result ≡ with_numbers (class_row class).1 base rows columns elements }
-{
-    let Number::Value(row_count) = rows else {
-        return not_understood();
-    };
-    let Number::Value(column_count) = columns else {
-        return not_understood();
-    };
-    SpelledType::Understood(TypeSpelling {
-        class: class.to_u32(),
-        base,
-        rows: row_count,
-        columns: column_count,
+    let (name, dimensions) = split_at_digit(text);
+    let base = parse_base(name)?;
+    let Dimensions {
+        class,
+        rows,
+        columns,
+    } = parse_dimensions(dimensions)?;
+    Some(TypeSpelling {
+        class: u32::from(class),
+        base: u32::from(base),
+        rows,
+        columns,
         elements,
     })
 }
 
-// A scalar, vector or matrix by the dimensions that follow the base.
-fn parse_shape(dims: &[u8], base: u32, elements: u32) -> SpelledType
-    ensures { result ≡ spelled_type (with_shape base elements (shape dims.now)) }
+// The number of elements, from what follows the first `[`.
+#[tactic(auto, using(crate::proofs::ParseTypes::elements))]
+fn parse_elements(rest: &[u8]) -> Option<u32>
+    ensures { result ≡ elements_of rest.now }
 {
-    if dims.len() == 0 {
-        return with_numbers(
-            VariableClass::Scalar,
-            base,
-            Number::Value(1),
-            Number::Value(1),
-            elements,
-        );
+    match rest {
+        [inner @ .., b']'] => parse_number(inner),
+        _ => None,
     }
-    let x = first_between(dims, b'x', b'x');
-    if x == dims.len() {
-        return with_numbers(
-            VariableClass::Vector,
-            base,
-            Number::Value(1),
-            parse_number(dims),
-            elements,
-        );
-    }
-    let rows = parse_number(&dims[..x]);
-    let columns = parse_number(&dims[x + 1..]);
-    with_numbers(VariableClass::MatrixColumns, base, rows, columns, elements)
 }
 
-// A type without its array suffix.
-fn parse_core(text: &[u8], elements: u32) -> SpelledType
-    ensures { result ≡ spelled_type (core text.now elements) }
+// What a text spells; None where it is not understood.
+fn parse_type(text: &[u8]) -> Option<TypeSpelling>
+    ensures { result ≡ parse_type text.now }
 {
-    let digit = first_between(text, b'0', b'9');
-    let BaseTypeCode::Known(base) = parse_base(&text[..digit]) else {
-        return not_understood();
-    };
-    parse_shape(&text[digit..], base.to_u32(), elements)
+    match split_once(text, b'[') {
+        Some((core, rest)) => parse_core(core, parse_elements(rest)?),
+        None => parse_core(text, 0),
+    }
 }
 
 // The class, base, rows, columns and elements that a text spells, or a refusal where it is not understood.
-pub fn parse_hlsl_type(text: &[u8]) -> SpelledType
+pub fn parse_hlsl_type(text: &[u8]) -> Result<TypeSpelling, Refusal>
     ensures { result ≡ spelled_type (parse_type text.now) }
 {
-    let bracket = first_between(text, b'[', b'[');
-    if bracket == text.len() {
-        return parse_core(text, 0);
-    }
-    let Number::Value(count) = parse_elements(&text[bracket + 1..]) else {
-        return not_understood();
-    };
-    parse_core(&text[..bracket], count)
+    parse_type(text).ok_or(Refusal::NoSpelling)
 }

@@ -1,13 +1,16 @@
 -- What is said of the refusals that a program met.
-use Rattle.std.specs.Prelude.{cond, List, [], ◌∷◌, ◌++◌, ℕ, eqb}
+use Rattle.std.specs.Prelude.{cond, List, [], ◌∷◌, ◌++◌, ℕ, eqb, Option, None, Some}
 use Rattle.std.specs.Fmt.{decimal}
 use Rattle.words.specs.Words.{word_at}
+use Rattle.reflection.specs.declared.refusal.Refusal.{Refusal}
+use Rattle.reflection.specs.Refusals.{refusal_number}
 use Rattle.text_output.specs.Ascii.{ascii}
 use Rattle.refusal_text.specs.Sentences.{sentence}
 
--- The first number that is kept, 0 where none was met before, after one more.
-abbrev pub first_of : ℕ → ℕ → ℕ
-first_of first number = cond (eqb first 0) number first
+-- The first refusal, after one more.
+abbrev pub first_of : Option Refusal → Refusal → Option Refusal
+first_of None refusal = Some refusal
+first_of (Some first) refusal = Some first
 
 -- What is said of a chunk that begins as a DXBC container does.
 abbrev pub container : List ℕ → List ℕ
@@ -18,6 +21,7 @@ container chunk =
 abbrev pub about : List ℕ → ℕ → List ℕ
 about chunk number = ascii "refused " ++ decimal number ++ ascii ": " ++ sentence number ++ 10 ∷ container chunk
 
--- The message; 0 is the number of no refusal, of which nothing is said.
-abbrev pub message : List ℕ → ℕ → List ℕ
-message chunk number = cond (eqb number 0) [] (about chunk number)
+-- The message; nothing is said where nothing was refused.
+abbrev pub message : List ℕ → Option Refusal → List ℕ
+message chunk None = []
+message chunk (Some refusal) = about chunk (refusal_number refusal)

@@ -3,12 +3,13 @@
 
 ghost use Rattle.std.specs.Prelude.{◌≡◌, OnOk};
 ghost use Rattle.std.specs.Io.KnownBytes.{Appends};
+ghost use Rattle.reflection.specs.Refusals.{refusal_number};
 ghost use Rattle.refusal_text.specs.Sentences.{sentence};
 ghost use Rattle.stderr.specs.Refused.{first_of, container, message};
 
+use reflection::Refusal;
 use std::io::{BufWriter, Write};
 use std::{fmt, io};
-use text_output::Written;
 
 // The bytes of a sentence; the longest has fewer.
 const SENTENCE: usize = 512;
@@ -24,6 +25,7 @@ pub enum Failure {
     Message(io::Error),
 }
 
+// By hand: a derive would print the variant's name.
 impl fmt::Debug for Failure {
     fn fmt<W: fmt::Write>(&self, f: &mut fmt::Formatter<W>) -> fmt::Result {
         match self {
@@ -34,24 +36,22 @@ impl fmt::Debug for Failure {
     }
 }
 
-// Keeps the number of the first refusal. It is 0 before there is one.
-pub fn keep_first(first: &mut u32, number: u32)
-    ensures { first.new ≡ first_of first.old number }
+// Keeps the first refusal.
+pub fn keep_first(first: &mut Option<Refusal>, refusal: Refusal)
+    ensures { first.new ≡ first_of first.old refusal }
 {
-    if *first == 0 {
-        *first = number;
-    }
+    first.get_or_insert(refusal);
 }
 
 // Adds the sentence of a refusal.
-fn put_sentence<W: Write>(to: &mut W, number: u32) -> io::Result<()>
-    ensures { OnOk result (Appends (W.contents to.old) (W.contents to.new) (sentence number)) }
+fn put_sentence<W: Write>(to: &mut W, refusal: Refusal) -> io::Result<()>
+    ensures { OnOk result (Appends (W.contents to.old) (W.contents to.new) (sentence (refusal_number refusal))) }
 {
     let mut sentence = [0u8; SENTENCE];
-    let written = refusal_text::refusal_text(number, &mut sentence);
+    let written = refusal_text::refusal_text(refusal.into(), &mut sentence);
     match written {
-        Written::Wrote(n) => stdout::put_bytes(to, words::part(&sentence, 0, n)),
-        Written::Refused(_) => Ok(()),
+        Ok(n) => stdout::put_bytes(to, words::part(&sentence, 0, n)),
+        Err(_) => Ok(()),
     }
 }
 
@@ -69,26 +69,26 @@ fn put_container<W: Write>(to: &mut W, chunk: &[u8]) -> io::Result<()>
     }
 }
 
-// Adds why a chunk, or the first of some texts, was refused; nothing where the number is 0. A chunk that is a DXBC container is named as such.
-pub fn put_refused<W: Write>(to: &mut W, chunk: &[u8], number: u32) -> io::Result<()>
-    ensures { OnOk result (Appends (W.contents to.old) (W.contents to.new) (message chunk.now number)) }
+// Adds why a chunk, or the first of some texts, was refused; nothing where none was. A chunk that is a DXBC container is named as such.
+pub fn put_refused<W: Write>(to: &mut W, chunk: &[u8], refused: Option<Refusal>) -> io::Result<()>
+    ensures { OnOk result (Appends (W.contents to.old) (W.contents to.new) (message chunk.now refused)) }
 {
-    if number == 0 {
-        return stdout::put_bytes(to, b"");
-    }
+    let Some(refusal) = refused else {
+        return Ok(());
+    };
     stdout::put_bytes(to, b"refused ")?;
-    stdout::put_decimal(to, number)?;
+    stdout::put_decimal(to, refusal.into())?;
     stdout::put_bytes(to, b": ")?;
-    put_sentence(to, number)?;
+    put_sentence(to, refusal)?;
     stdout::put_byte(to, b'\n')?;
     put_container(to, chunk)
 }
 
-// `put_refused` to standard error, in one write; nothing is done where the number is 0.
-pub fn refused(rt: &HostRuntime, chunk: &[u8], number: u32) -> Result<(), Failure> {
-    if number != 0 {
+// `put_refused` to standard error, in one write; nothing is done where nothing was refused.
+pub fn refused(rt: &HostRuntime, chunk: &[u8], refused: Option<Refusal>) -> Result<(), Failure> {
+    if refused.is_some() {
         let mut to = BufWriter::new(rt.alloc(), rt.stderr()).map_err(Failure::Message)?;
-        put_refused(&mut to, chunk, number).map_err(Failure::Message)?;
+        put_refused(&mut to, chunk, refused).map_err(Failure::Message)?;
         to.flush().map_err(Failure::Message)?;
     }
     Ok(())

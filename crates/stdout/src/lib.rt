@@ -5,9 +5,11 @@
 ghost use Rattle.std.specs.Prelude.{◌≡◌, ◌<◌, [], ◌∷◌, OnOk};
 ghost use Rattle.std.specs.Fmt.{decimal};
 ghost use Rattle.std.specs.Io.KnownBytes.{Keeps, Appends};
+ghost use Rattle.reflection.specs.Refusals.{refusal_number};
 ghost use Rattle.text_output.specs.Digits.{hex_digit};
 ghost use Rattle.stdout.specs.Output.{hex, refused_line};
 
+use reflection::Refusal;
 use std::io;
 use std::io::Write;
 
@@ -54,11 +56,11 @@ pub fn put_hex<W: Write>(out: &mut W, bytes: &[u8]) -> io::Result<()>
 }
 
 // Adds the line of a refused chunk: `refused`, a tab, the number.
-pub fn put_refused<W: Write>(out: &mut W, number: u32) -> io::Result<()>
-    ensures { OnOk result (Appends (W.contents out.old) (W.contents out.new) (refused_line number)) }
+pub fn put_refused<W: Write>(out: &mut W, refusal: Refusal) -> io::Result<()>
+    ensures { OnOk result (Appends (W.contents out.old) (W.contents out.new) (refused_line (refusal_number refusal))) }
 {
     put_bytes(out, b"refused\t")?;
-    put_decimal(out, number)?;
+    put_decimal(out, refusal.into())?;
     put_byte(out, b'\n')
 }
 

@@ -1,7 +1,7 @@
 -- Worked cases of decoding, by computation: document 01's case V in tables of one record each, and the same tables with a count that does not match.
+use Rattle.std.specs.Prelude.{Option, None, Some}
 use mathlib.Core.Path.{◌≡◌, refl}
 use mathlib.Core.List.{List, [], ◌∷◌}
-use mathlib.Core.Option.{Option, none, some}
 use Prim.Native.Nat.{ℕ}
 use Rattle.reflection.specs.declared.Text.{Text}
 use Rattle.reflection.specs.declared.ResourceDef.{ResourceDef as Header}
@@ -9,7 +9,8 @@ use Rattle.reflection.specs.Reflection.{type_desc, no_member, ResourceDef, Rd11,
 use Rattle.reflection.specs.Texts.{in_chunk}
 use Rattle.tables.specs.Nodes.{◌>>=◌, members_from_nodes, type_from_nodes}
 use Rattle.tables.specs.Records.{holds_record, record_word, buffer_at, variable_at, type_at}
-use Rattle.tables.specs.Decode.{guard, records_from, first_records, variable_from_table, buffer_from_table, node_from_table, variables_from, buffers_from, decode}
+use Rattle.tables.specs.Decode.{guard, records_from, first_records, variable_from_table, buffer_from_table, node_from_table, variables_from}
+use Rattle.tables.specs.Decode.{buffers_from, decode}
 use Rattle.reflection.specs.Rd11.{rd11_from_header}
 
 -- One buffer, `$Globals`, with one variable, the float `k`.
@@ -74,14 +75,14 @@ from h = decode h [] one_buffer two_variables two_nodes
 -- What the four tables hold under a header: of major 4, of major 5, of another major; and `none` with a node left over, a variable left over, no type for the
 -- variable, no variable for the buffer, one buffer more than the table holds.
 pub record Decoded : Type 0 where
-  pub major_4 : from (header 1024 0 1 1 1) ≡ some (case_v 1024 no_rd11)
-  pub major_5 : from (header 1280 32 1 1 1) ≡ some (case_v 1280 (rd11 0 32 0))
-  pub major_3 : from (header 768 32 1 1 1) ≡ some (case_v 768 no_rd11)
-  pub node_left : from (header 1024 0 1 1 2) ≡ none
-  pub variable_left : from (header 1024 0 1 2 2) ≡ none
-  pub type_missing : from (header 1024 0 1 1 0) ≡ none
-  pub variable_missing : from (header 1024 0 1 0 0) ≡ none
-  pub buffer_missing : from (header 1024 0 2 2 2) ≡ none
+  pub major_4 : from (header 1024 0 1 1 1) ≡ Some (case_v 1024 no_rd11)
+  pub major_5 : from (header 1280 32 1 1 1) ≡ Some (case_v 1280 (rd11 0 32 0))
+  pub major_3 : from (header 768 32 1 1 1) ≡ Some (case_v 768 no_rd11)
+  pub node_left : from (header 1024 0 1 1 2) ≡ None
+  pub variable_left : from (header 1024 0 1 2 2) ≡ None
+  pub type_missing : from (header 1024 0 1 1 0) ≡ None
+  pub variable_missing : from (header 1024 0 1 0 0) ≡ None
+  pub buffer_missing : from (header 1024 0 2 2 2) ≡ None
 
 pub cases : Decoded
 unfolding decode first_records records_from guard variables_from buffers_from rd11_from_header type_from_nodes members_from_nodes ◌>>=◌ variable_from_table

@@ -1,9 +1,9 @@
 -- Decoding undoes encoding: the tables of a reflection hold its records, the nodes build its types again, and the buffers take back their variables.
 -- What a root's node says of a member does not count (the nodes may be rooted anyhow).
+use Rattle.std.specs.Prelude.{Some}
 use mathlib.Core.Path.{◌≡◌, refl, sym, ap, ◌∙◌}
 use mathlib.Core.Bool.{Bool, true, false}
 use mathlib.Core.List.{List, [], ◌∷◌, ◌++◌, map}
-use mathlib.Core.Option.{some}
 use Prim.Native.Nat.{ℕ, suc, ◌+◌, ◌/◌, ◌<◌}
 use native.Mathlib.Nat.{zero-add, add-zero}
 use native.Mathlib.Omega.{arith}
@@ -56,30 +56,30 @@ module _
     (record-at : List ℕ → ℕ → A)
     (reads : (t : List ℕ) (i : ℕ) (x : A) → within width (record_word width t i) ≡ within width (λ k. get_or (words x) k 0) → record-at t i ≡ x) where
   -- The first records of a table of joined records are these.
-  first_joined : (n m : ℕ) (xs : List A) → m ≡ length xs → first_records width record-at (padded n (joined words xs)) m ≡ some xs
+  first_joined : (n m : ℕ) (xs : List A) → m ≡ length xs → first_records width record-at (padded n (joined words xs)) m ≡ Some xs
   unfolding first_records guard
   first_joined n m xs e =
       then_some _ (ap guard (le-leb m (length (padded n (joined words xs)) / width) (omega (arith, holds_joined width words whole n xs wide))))
-      (ap some
+      (ap Some
       (ap (records_from (record-at (padded n (joined words xs))) 0) e
       ∙ records_all (record-at (padded n (joined words xs))) xs (record-at [] 0) 0
       (λ k h. ap (record-at (padded n (joined words xs))) (zero-add k) ∙ reads _ _ _ (words_joined width words whole n xs (record-at [] 0) k h))))
 
 pub first_bindings : (n m : ℕ) (xs : List BindingRecord) → m ≡ length xs
-    → first_records binding_width binding_at (padded n (joined binding_words_in_table xs)) m ≡ some xs
+    → first_records binding_width binding_at (padded n (joined binding_words_in_table xs)) m ≡ Some xs
 unfolding binding_at binding_words_in_table
 first_bindings = first_joined binding_width (omega arith) binding_words_in_table (λ x. refl) binding_at (λ t i x e. ap binding_of e)
 
-pub first_buffers : (n m : ℕ) (xs : List BufferRecord) → m ≡ length xs → first_records buffer_width buffer_at (padded n (joined buffer_words_in_table xs)) m ≡ some xs
+pub first_buffers : (n m : ℕ) (xs : List BufferRecord) → m ≡ length xs → first_records buffer_width buffer_at (padded n (joined buffer_words_in_table xs)) m ≡ Some xs
 unfolding buffer_at buffer_words_in_table
 first_buffers = first_joined buffer_width (omega arith) buffer_words_in_table (λ x. refl) buffer_at (λ t i x e. ap buffer_of e)
 
 pub first_variables : (n m : ℕ) (xs : List VariableRecord) → m ≡ length xs
-    → first_records variable_width variable_at (padded n (joined variable_words_in_table xs)) m ≡ some xs
+    → first_records variable_width variable_at (padded n (joined variable_words_in_table xs)) m ≡ Some xs
 unfolding variable_at variable_words_in_table
 first_variables = first_joined variable_width (omega arith) variable_words_in_table (λ x. refl) variable_at (λ t i x e. ap variable_of e)
 
-pub first_types : (n m : ℕ) (xs : List TypeRecord) → m ≡ length xs → first_records type_width type_at (padded n (joined type_words_in_table xs)) m ≡ some xs
+pub first_types : (n m : ℕ) (xs : List TypeRecord) → m ≡ length xs → first_records type_width type_at (padded n (joined type_words_in_table xs)) m ≡ Some xs
 unfolding type_at type_words_in_table
 first_types = first_joined type_width (omega arith) type_words_in_table (λ x. refl) type_at (λ t i x e. ap type_of e)
 
@@ -125,14 +125,14 @@ length_rooted root (x ∷ xs) =
     )
 
 pub variables_back : (root : CBufferVariable Text Text → Text × ℕ) (vs : List (CBufferVariable Text Text)) → TypesFit vs
-    → variables_from (map variable_record vs) (rooted_nodes root vs) ≡ some vs
+    → variables_from (map variable_record vs) (rooted_nodes root vs) ≡ Some vs
 unfolding variables_from variable_from_table variable_record rooted_nodes TypesFit
 variables_back root [] fits = refl
 variables_back root (v ∷ vs) fits =
     then_some _ (type_from v.var_type type_levels (root v).0 (root v).1 (rooted_nodes root vs) fits.0)
     (then_some _ (variables_back root vs fits.1) refl)
 
-pub buffers_back : (bs : List (CBufferDef Text Text)) → buffers_from (map buffer_record bs) (all_variables bs) ≡ some bs
+pub buffers_back : (bs : List (CBufferDef Text Text)) → buffers_from (map buffer_record bs) (all_variables bs) ≡ Some bs
 unfolding buffers_from buffer_from_table buffer_record all_variables guard
 buffers_back [] = refl
 buffers_back (b ∷ bs) =
@@ -140,7 +140,7 @@ buffers_back (b ∷ bs) =
     let others = all_variables bs in
     then_some _ (ap guard (le-leb (length own) (length (own ++ others)) (omega (arith, length-append own others))))
     (then_some _ (ap (buffers_from (map buffer_record bs)) (drop-append_seam own others) ∙ buffers_back bs)
-    (ap (λ vs. some (buffer_from_table (buffer_record b) vs ∷ bs)) (take-append_seam own others)))
+    (ap (λ vs. Some (buffer_from_table (buffer_record b) vs ∷ bs)) (take-append_seam own others)))
 
 -- The RD11 words that a reflection has: their own three words for major 5, none for another. Those of its header are these.
 abbrev pub rd11_of : Bool → Rd11 → Rd11
@@ -158,7 +158,7 @@ module _ (r : ResourceDef Text Text) (nb nf nv nt : ℕ) (fits : TypesFit (all_v
   pub decode_rooted : (root : CBufferVariable Text Text → Text × ℕ)
       → decode (header_of r) (padded nb (binding_rows r)) (padded nf (buffer_rows r)) (padded nv (variable_rows r))
       (padded nt (joined type_words_in_table (map type_record (rooted_nodes root (all_variables r.constant_buffers)))))
-      ≡ some r
+      ≡ Some r
   unfolding decode header_of binding_rows buffer_rows variable_rows
   decode_rooted root =
       let vs = all_variables r.constant_buffers in
@@ -170,6 +170,6 @@ module _ (r : ResourceDef Text Text) (nb nf nv nt : ℕ) (fits : TypesFit (all_v
       (then_some _ (ap (variables_from (map variable_record vs)) (nodes_back ns) ∙ variables_back root vs fits)
       (then_some _ (buffers_back r.constant_buffers) (rw (bindings_back r.bindings, ← words)))))))
 
-  pub decode_encoded : decode (header_of r) (padded nb (binding_rows r)) (padded nf (buffer_rows r)) (padded nv (variable_rows r)) (padded nt (type_rows r)) ≡ some r
+  pub decode_encoded : decode (header_of r) (padded nb (binding_rows r)) (padded nf (buffer_rows r)) (padded nv (variable_rows r)) (padded nt (type_rows r)) ≡ Some r
   unfolding type_rows
   decode_encoded = rw (← plain_roots) (decode_rooted (λ x. (in_chunk 0 0, 0)))

@@ -1,9 +1,10 @@
 -- Where decoding gives a reflection, it is the one that is read off the tables record by record, and the counts are those of the header: decoding goes through
 -- the same records in the same order, and its tests only stop it.
+use Rattle.std.proofs.lemmas.Option.{same_Some, none-some}
+use Rattle.std.specs.Prelude.{Option, Some}
 use mathlib.Core.Path.{◌≡◌, refl, ap, sym, ◌∙◌}
 use mathlib.Core.Bool.{Bool, true, false}
 use mathlib.Core.List.{List, [], ◌∷◌, map}
-use mathlib.Core.Option.{Option, some, some-injective, none-ne-some}
 use Prim.Native.Nat.{ℕ, zero, suc, ◌+◌, ◌-◌, ◌/◌, ◌≤◌}
 use native.Mathlib.Nat.{add-zero, zero-add, add-suc, suc-add}
 use native.Mathlib.Omega.{arith}
@@ -27,24 +28,24 @@ use Rattle.tables.specs.TableReflection.{root_at, variable_in_table, count_at, f
 use Rattle.tables.proofs.Options.{then_was}
 use Rattle.tables.proofs.RecordLists.{length_records, take_records, drop_records}
 
-checked : (b : Bool) {x : Unit {0}} → guard b ≡ some x → b ≡ true
+checked : (b : Bool) {x : Unit {0}} → guard b ≡ Some x → b ≡ true
 unfolding guard
 checked true e = refl
-checked false {x} e = absurd (none-ne-some x e)
+checked false {x} e = absurd (none-some x e)
 
 record First {A : Type 0} (width : ℕ) (record-at : List ℕ → ℕ → A) (t : List ℕ) (n : ℕ) (xs : List A) : Type 0 where
   held : n ≤ length t / width
   are : xs ≡ records_from (record-at t) 0 n
 
-first_held : {A : Type 0} (width : ℕ) (record-at : List ℕ → ℕ → A) (t : List ℕ) (n : ℕ) (xs : List A) → first_records width record-at t n ≡ some xs
+first_held : {A : Type 0} (width : ℕ) (record-at : List ℕ → ℕ → A) (t : List ℕ) (n : ℕ) (xs : List A) → first_records width record-at t n ≡ Some xs
     → First width record-at t n xs
 unfolding first_records
 first_held width record-at t n xs e =
-    let w = then_was (guard (leb n (length t / width))) (λ _. some (records_from (record-at t) 0 n)) xs e in
+    let w = then_was (guard (leb n (length t / width))) (λ _. Some (records_from (record-at t) 0 n)) xs e in
     record {
       held = leb-true n (length t / width) (checked (leb n (length t / width)) w.1);
       are = sym
-          (some-injective (records_from (record-at t) 0 n) xs w.2);
+          (same_Some (records_from (record-at t) 0 n) xs w.2);
     }
 
 module _ (variables types : List ℕ) where
@@ -52,13 +53,13 @@ module _ (variables types : List ℕ) where
     are : vs ≡ records_from (variable_in_table variables types) j n
     end : root_at types (j + n) ≡ root_at types j + m
 
-  no_variable : (ns : List (Node Text)) {vs : List (CBufferVariable Text Text)} → variables_from [] ns ≡ some vs → (length ns ≡ 0) × (vs ≡ [])
+  no_variable : (ns : List (Node Text)) {vs : List (CBufferVariable Text Text)} → variables_from [] ns ≡ Some vs → (length ns ≡ 0) × (vs ≡ [])
   unfolding variables_from
-  no_variable [] {vs} e = (refl, sym (some-injective [] vs e))
-  no_variable (n ∷ ns) {vs} e = absurd (none-ne-some vs e)
+  no_variable [] {vs} e = (refl, sym (same_Some [] vs e))
+  no_variable (n ∷ ns) {vs} e = absurd (none-some vs e)
 
   variables_decoded : (n j m : ℕ) (vs : List (CBufferVariable Text Text)) → root_at types j + m ≤ length types / type_width
-      → variables_from (records_from (variable_at variables) j n) (map node_from_table (records_from (type_at types) (root_at types j) m)) ≡ some vs
+      → variables_from (records_from (variable_at variables) j n) (map node_from_table (records_from (type_at types) (root_at types j) m)) ≡ Some vs
       → VariablesDecoded j n m vs
   unfolding records_from variables_from root_at variable_in_table
   variables_decoded zero j m vs held e =
@@ -70,15 +71,15 @@ module _ (variables types : List ℕ) where
       let v = variable_at variables j in
       let nodes = map node_from_table (records_from (type_at types) (root_at types j) m) in
       let others-from = variables_from (records_from (variable_at variables) (suc j) n) in
-      let w = then_was (type_from_nodes type_levels nodes) (λ t. others-from t.left >>= λ others. some (variable_from_table v t.type ∷ others)) vs e in
+      let w = then_was (type_from_nodes type_levels nodes) (λ t. others-from t.left >>= λ others. Some (variable_from_table v t.type ∷ others)) vs e in
       let t = type_decoded types type_levels (root_at types j) m w.0 held w.1 in
-      let others = then_was (others-from w.0.left) (λ others. some (variable_from_table v w.0.type ∷ others)) vs w.2 in
+      let others = then_was (others-from w.0.left) (λ others. Some (variable_from_table v w.0.type ∷ others)) vs w.2 in
       let rest =
       variables_decoded n (suc j) (root_at types j + m - root_at types (suc j)) others.0 (omega (arith, t.within, held))
       (ap others-from (sym t.left) ∙ others.1) in
       record {
         are =
-            sym (some-injective (variable_from_table v w.0.type ∷ others.0) vs others.2)
+            sym (same_Some (variable_from_table v w.0.type ∷ others.0) vs others.2)
             ∙ (let typed = sym t.type in λ i. variable_from_table v (typed i) ∷ rest.are i);
         end = ap (root_at types) (add-suc j n ∙ sym (suc-add j n)) ∙ rest.end ∙ omega (arith, t.within);
       }
@@ -88,13 +89,13 @@ module _ (variables types : List ℕ) where
       are : bs ≡ records_from (buffer_in_table buffers variables types) i n
       end : first_variable buffers (i + n) ≡ first_variable buffers i + m
 
-    no_buffer : (vs : List (CBufferVariable Text Text)) {bs : List (CBufferDef Text Text)} → buffers_from [] vs ≡ some bs → (length vs ≡ 0) × (bs ≡ [])
+    no_buffer : (vs : List (CBufferVariable Text Text)) {bs : List (CBufferDef Text Text)} → buffers_from [] vs ≡ Some bs → (length vs ≡ 0) × (bs ≡ [])
     unfolding buffers_from
-    no_buffer [] {bs} e = (refl, sym (some-injective [] bs e))
-    no_buffer (v ∷ vs) {bs} e = absurd (none-ne-some bs e)
+    no_buffer [] {bs} e = (refl, sym (same_Some [] bs e))
+    no_buffer (v ∷ vs) {bs} e = absurd (none-some bs e)
 
     buffers_decoded : (n i m : ℕ) (bs : List (CBufferDef Text Text))
-        → buffers_from (records_from (buffer_at buffers) i n) (records_from (variable_in_table variables types) (first_variable buffers i) m) ≡ some bs
+        → buffers_from (records_from (buffer_at buffers) i n) (records_from (variable_in_table variables types) (first_variable buffers i) m) ≡ Some bs
         → BuffersDecoded i n m bs
     unfolding records_from buffers_from first_variable buffer_in_table count_at
     buffers_decoded zero i m bs e =
@@ -104,7 +105,7 @@ module _ (variables types : List ℕ) where
     buffers_decoded (suc n) i m bs e =
         let vs : List (CBufferVariable Text Text) = records_from (variable_in_table variables types) (first_variable buffers i) m in
         let c : ℕ = count_at buffers i in
-        let f : List (CBufferDef Text Text) → Option (List (CBufferDef Text Text)) = λ others. some
+        let f : List (CBufferDef Text Text) → Option (List (CBufferDef Text Text)) = λ others. Some
         (buffer_from_table (buffer_at buffers i) (take c vs) ∷ others) in
         let w = then_was (guard (leb c (length vs))) (λ _. buffers_from (records_from (buffer_at buffers) (suc i) n) (drop c vs) >>= f) bs e in
         let few : c ≤ m = omega (
@@ -119,7 +120,7 @@ module _ (variables types : List ℕ) where
         let first = take_records (variable_in_table variables types) (first_variable buffers i) m c few in
         record {
           are =
-              sym (some-injective (buffer_from_table (buffer_at buffers i) (take c vs) ∷ others.0) bs others.2)
+              sym (same_Some (buffer_from_table (buffer_at buffers i) (take c vs) ∷ others.0) bs others.2)
               ∙ (λ z. buffer_from_table (buffer_at buffers i) (first z) ∷ rest.are z);
           end = ap (first_variable buffers) (add-suc i n ∙ sym (suc-add i n)) ∙ rest.end ∙ omega (arith, few);
         }
@@ -149,7 +150,7 @@ module _ (h : Header) (bindings buffers variables types : List ℕ) where
       {typed : List (CBufferVariable Text Text)} {filled : List (CBufferDef Text Text)} {r : ResourceDef Text Text}
       → First binding_width binding_at bindings h.binding_count bs → First buffer_width buffer_at buffers h.buffer_count cs → First
       variable_width variable_at variables h.variable_count vs
-      → First type_width type_at types h.type_count ts → variables_from vs (map node_from_table ts) ≡ some typed → buffers_from cs typed ≡ some filled
+      → First type_width type_at types h.type_count ts → variables_from vs (map node_from_table ts) ≡ Some typed → buffers_from cs typed ≡ Some filled
       → with_parts bs filled ≡ r
       → Decoded h bindings buffers variables types r
   unfolding reflection_in_tables root_at first_variable
@@ -172,7 +173,7 @@ module _ (h : Header) (bindings buffers variables types : List ℕ) where
         holds_types = t.held;
       }
 
-  pub decoded : (r : ResourceDef Text Text) → decode h bindings buffers variables types ≡ some r → Decoded h bindings buffers variables types r
+  pub decoded : (r : ResourceDef Text Text) → decode h bindings buffers variables types ≡ Some r → Decoded h bindings buffers variables types r
   unfolding decode
   decoded r e =
       let b = then_was (first_records binding_width binding_at bindings h.binding_count) _ r e in
@@ -183,4 +184,4 @@ module _ (h : Header) (bindings buffers variables types : List ℕ) where
       let filled = then_was (buffers_from c.0 typed.0) _ r typed.2 in
       from_parts (first_held _ _ _ _ _ b.1) (first_held _ _ _ _ _ c.1) (first_held _ _ _ _ _ v.1)
       (first_held _ _ _ _ _ t.1) typed.1 filled.1
-      (some-injective (with_parts b.0 filled.0) r filled.2)
+      (same_Some (with_parts b.0 filled.0) r filled.2)

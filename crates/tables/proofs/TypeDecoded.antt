@@ -1,9 +1,10 @@
 -- Where decoding builds a type from the nodes of a table, it is the tree at its first node, and what is left are the nodes after it: both go through
 -- the nodes in the same order, and decoding's tests only stop it.
+use Rattle.std.proofs.lemmas.Option.{same_Some, none-some}
+use Rattle.std.specs.Prelude.{Some}
 use mathlib.Core.Path.{◌≡◌, refl, sym, ap, subst, ◌∙◌}
 use mathlib.Core.Bool.{true}
 use mathlib.Core.List.{List, map}
-use mathlib.Core.Option.{some, some-injective, none-ne-some}
 use Prim.Native.Nat.{ℕ, zero, suc, ◌+◌, ◌-◌, ◌/◌, ◌≤◌, ◌<◌}
 use native.Mathlib.Numerals.{add-one}
 use native.Mathlib.Omega.{arith}
@@ -36,15 +37,15 @@ record MembersDecoded (types : List ℕ) (levels n k m : ℕ) (r : Members Text 
   left : r.1 ≡ nodes_from types (members_at (tree_at types levels) types n k).next (k + m - (members_at (tree_at types levels) types n k).next)
 
 -- Nothing is built from no nodes.
-some_nodes : (types : List ℕ) (levels k m : ℕ) (b : Built Text) → type_from_nodes levels (nodes_from types k m) ≡ some b → 0 < m
+some_nodes : (types : List ℕ) (levels k m : ℕ) (b : Built Text) → type_from_nodes levels (nodes_from types k m) ≡ Some b → 0 < m
 unfolding type_from_nodes records_from
-some_nodes types zero k m b e = absurd (none-ne-some b e)
-some_nodes types (suc levels) k zero b e = absurd (none-ne-some b e)
+some_nodes types zero k m b e = absurd (none-some b e)
+some_nodes types (suc levels) k zero b e = absurd (none-some b e)
 some_nodes types (suc levels) k (suc m) b e = omega arith
 
 module _ (types : List ℕ) where
   abbrev Decodes : ℕ → Type 0
-  Decodes levels = (k m : ℕ) (b : Built Text) → k + m ≤ length types / type_width → type_from_nodes levels (nodes_from types k m) ≡ some b
+  Decodes levels = (k m : ℕ) (b : Built Text) → k + m ≤ length types / type_width → type_from_nodes levels (nodes_from types k m) ≡ Some b
       → TypeDecoded types levels k m b
 
   holds : (n k : ℕ) → k < length types / type_width → has_member types (suc n) k ≡ true
@@ -96,20 +97,20 @@ module _ (types : List ℕ) where
     }
 
   members_decoded : (levels : ℕ) → Decodes levels → (n k m : ℕ) (r : Members Text × List (Node Text)) → k + m ≤ length types / type_width
-      → members_from_nodes (type_from_nodes levels) n (nodes_from types k m) ≡ some r → MembersDecoded types levels n k m r
+      → members_from_nodes (type_from_nodes levels) n (nodes_from types k m) ≡ Some r → MembersDecoded types levels n k m r
   unfolding members_from_nodes
   members_decoded levels decodes zero k m r fits e =
-      subst (MembersDecoded types levels 0 k m) (some-injective (no_member, nodes_from types k m) r e) (none_decoded levels k m)
+      subst (MembersDecoded types levels 0 k m) (same_Some (no_member, nodes_from types k m) r e) (none_decoded levels k m)
   members_decoded levels decodes (suc n) k m r fits e =
       let w = then_was (type_from_nodes levels (nodes_from types k m))
-      (λ t. members_from_nodes (type_from_nodes levels) n t.left >>= (λ ms. some (member t.member_name t.member_offset t.type ms.0, ms.1))) r e in
+      (λ t. members_from_nodes (type_from_nodes levels) n t.left >>= (λ ms. Some (member t.member_name t.member_offset t.type ms.0, ms.1))) r e in
       let t : Built Text = w.0 in
       let first : TypeDecoded types levels k m t = decodes k m t fits w.1 in
       let v = then_was (members_from_nodes (type_from_nodes levels) n t.left)
-      (λ ms. some (member t.member_name t.member_offset t.type ms.0, ms.1)) r w.2 in
+      (λ ms. Some (member t.member_name t.member_offset t.type ms.0, ms.1)) r w.2 in
       let others = members_decoded levels decodes n (tree_at types levels k).next (k + m - (tree_at types levels k).next) v.0 (omega (arith, first.within))
       (ap (members_from_nodes (type_from_nodes levels) n) (sym first.left) ∙ v.1) in
-      subst (MembersDecoded types levels (suc n) k m) (some-injective _ r v.2)
+      subst (MembersDecoded types levels (suc n) k m) (same_Some _ r v.2)
       (more_decoded levels n k m fits t v.0 (some_nodes types levels k m t w.1) first others)
 
   -- A type and its members.
@@ -135,11 +136,11 @@ module _ (types : List ℕ) where
 
   pub type_decoded : (levels : ℕ) → Decodes levels
   unfolding type_from_nodes records_from node_at
-  type_decoded zero k m b fits e = absurd (none-ne-some b e)
-  type_decoded (suc levels) k zero b fits e = absurd (none-ne-some b e)
+  type_decoded zero k m b fits e = absurd (none-some b e)
+  type_decoded (suc levels) k zero b fits e = absurd (none-some b e)
   type_decoded (suc levels) k (suc m) b fits e =
       let w = then_was (members_from_nodes (type_from_nodes levels) (node_at types k).member_count (nodes_from types (suc k) m))
-      (λ ms. some (record {
+      (λ ms. Some (record {
         type = type_desc (node_at types k).numbers (node_at types k).name ms.0;
         member_name = (node_at types k).member_name;
         member_offset = (node_at types k).member_offset;
@@ -147,5 +148,5 @@ module _ (types : List ℕ) where
       })) b e in
       let members : MembersDecoded types levels (node_at types k).member_count (suc k) m w.0 =
       members_decoded levels (type_decoded levels) (node_at types k).member_count (suc k) m w.0 (omega (arith, fits)) w.1 in
-      subst (TypeDecoded types (suc levels) k (suc m)) (some-injective _ b w.2)
+      subst (TypeDecoded types (suc levels) k (suc m)) (same_Some _ b w.2)
       (type_built levels k m w.0 (subst (λ (j : ℕ). MembersDecoded types levels (node_at types k).member_count j m w.0) (sym (add-one k)) members))

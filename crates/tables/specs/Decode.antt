@@ -1,7 +1,6 @@
 -- A reflection read off its header and its four tables: the first records of each table, as many as the header counts; a type for each variable, built
 -- from the nodes in order; for each buffer the next of the variables. `none` where the counts do not match the records.
-use Rattle.std.specs.Prelude.{Bool, true, false, List, [], ◌∷◌, map, ℕ, zero, suc, ◌/◌, leb, length, take, drop}
-use Rattle.std.proofs.Math.Option.{Option, none, some}
+use Rattle.std.specs.Prelude.{Bool, true, false, List, [], ◌∷◌, map, ℕ, zero, suc, ◌/◌, leb, length, take, drop, Option, None, Some}
 use Rattle.reflection.specs.declared.Text.{Text}
 use Rattle.reflection.specs.declared.ResourceDef.{ResourceDef as Header}
 use Rattle.reflection.specs.declared.ResourceBinding.{ResourceBinding as BindingRecord}
@@ -15,8 +14,8 @@ use Rattle.tables.specs.Records.{binding_width, buffer_width, variable_width, ty
 
 -- Goes on where the test holds.
 unfoldable pub guard : Bool → Option (Unit {0})
-guard true = some tt
-guard false = none
+guard true = Some tt
+guard false = None
 
 -- Records i to i + n - 1.
 unfoldable pub records_from : {A : Type 0} → (ℕ → A) → ℕ → ℕ → List A
@@ -27,7 +26,7 @@ records_from record-at i (suc n) = record-at i ∷ records_from record-at (suc i
 unfoldable pub first_records : {A : Type 0} → ℕ → (List ℕ → ℕ → A) → List ℕ → ℕ → Option (List A)
 first_records width record-at t n = do
   _ ← guard (leb n (length t / width))
-  some (records_from (record-at t) 0 n)
+  Some (records_from (record-at t) 0 n)
 
 -- What a record says; the type of a variable and the variables of a buffer are handed in.
 unfoldable pub binding_from_table : BindingRecord → ResourceBinding Text
@@ -82,21 +81,21 @@ node_from_table x = record {
 
 -- The variables, each with the type that the next nodes build. All nodes are used. A root's member name and offset are not looked at.
 unfoldable pub variables_from : List VariableRecord → List (Node Text) → Option (List (CBufferVariable Text Text))
-variables_from [] [] = some []
-variables_from [] (n ∷ ns) = none
+variables_from [] [] = Some []
+variables_from [] (n ∷ ns) = None
 variables_from (v ∷ vs) ns = do
   t ← type_from_nodes type_levels ns
   others ← variables_from vs t.left
-  some (variable_from_table v t.type ∷ others)
+  Some (variable_from_table v t.type ∷ others)
 
 -- The buffers, each with as many of the next variables as it counts. All variables are used.
 unfoldable pub buffers_from : List BufferRecord → List (CBufferVariable Text Text) → Option (List (CBufferDef Text Text))
-buffers_from [] [] = some []
-buffers_from [] (v ∷ vs) = none
+buffers_from [] [] = Some []
+buffers_from [] (v ∷ vs) = None
 buffers_from (b ∷ bs) vs = do
   _ ← guard (leb b.variable_count (length vs))
   others ← buffers_from bs (drop b.variable_count vs)
-  some (buffer_from_table b (take b.variable_count vs) ∷ others)
+  Some (buffer_from_table b (take b.variable_count vs) ∷ others)
 
 -- The reflection that a header and the words of the bindings', buffers', variables' and types' tables hold.
 unfoldable pub decode : Header → List ℕ → List ℕ → List ℕ → List ℕ → Option (ResourceDef Text Text)
@@ -107,7 +106,7 @@ decode h bindings buffers variables types = do
   ts ← first_records type_width type_at types h.type_count
   typed ← variables_from vs (map node_from_table ts)
   filled ← buffers_from cs typed
-  some (record {
+  Some (record {
     target_version = h.target_version;
     compile_flags = h.compile_flags;
     rd11 = rd11_from_header h;

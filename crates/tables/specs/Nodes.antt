@@ -1,6 +1,5 @@
 -- A type as nodes in walk order, each before those of its members, and back (document 01, "Port order and changed shapes").
-use Rattle.std.specs.Prelude.{List, [], ◌∷◌, ◌++◌, ℕ, zero, suc}
-use Rattle.std.proofs.Math.Option.{Option, none, some}
+use Rattle.std.specs.Prelude.{List, [], ◌∷◌, ◌++◌, ℕ, zero, suc, Option, None, Some}
 use Rattle.reflection.specs.Reflection.{TypeNumbers, TypeDesc, type_desc, Members, no_member, member, member_count}
 pub use Rattle.reflection.specs.Limits.{type_levels}
 
@@ -29,21 +28,21 @@ pub record Built (N : Type 0) : Type 0 where
 
 infixl 20 ◌>>=◌
 unfoldable pub ◌>>=◌ : {A B : Type 0} → Option A → (A → Option B) → Option B
-◌>>=◌ (some a) f = f a
-◌>>=◌ none f = none
+◌>>=◌ (Some a) f = f a
+◌>>=◌ None f = None
 
 -- n members from the nodes that are left; `build` builds one type.
 unfoldable pub members_from_nodes : {N : Type 0} → (List (Node N) → Option (Built N)) → ℕ → List (Node N) → Option (Members N × List (Node N))
-members_from_nodes build zero xs = some (no_member, xs)
+members_from_nodes build zero xs = Some (no_member, xs)
 members_from_nodes build (suc n) xs = do
   t ← build xs
   ms ← members_from_nodes build n t.left
-  some (member t.member_name t.member_offset t.type ms.0, ms.1)
+  Some (member t.member_name t.member_offset t.type ms.0, ms.1)
 
 -- The type whose node comes first, of at most so many levels.
 unfoldable pub type_from_nodes : {N : Type 0} → ℕ → List (Node N) → Option (Built N)
-type_from_nodes zero xs = none
-type_from_nodes (suc levels) [] = none
+type_from_nodes zero xs = None
+type_from_nodes (suc levels) [] = None
 type_from_nodes (suc levels) (x ∷ xs) = do
   ms ← members_from_nodes (type_from_nodes levels) x.member_count xs
-  some (record { type = type_desc x.numbers x.name ms.0; member_name = x.member_name; member_offset = x.member_offset; left = ms.1 })
+  Some (record { type = type_desc x.numbers x.name ms.0; member_name = x.member_name; member_offset = x.member_offset; left = ms.1 })

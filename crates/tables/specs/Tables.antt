@@ -1,13 +1,13 @@
 -- A reflection in a header and four lent tables: bindings, buffers, variables, type nodes in walk order.
 -- Document 01, "Refusals": after success the records and then zeros, after a refusal zeros.
-use Rattle.std.specs.Prelude.{List, [], ◌∷◌, ◌++◌, map, ℕ, ◌-◌, length, replicate}
+use Rattle.reflection.specs.Outcome.{Outcome}
+use Rattle.std.specs.Prelude.{List, [], ◌∷◌, ◌++◌, map, ℕ, ◌-◌, length, replicate, Ok, Err}
 use Rattle.reflection.specs.declared.Text.{Text}
 use Rattle.reflection.specs.declared.ResourceDef.{ResourceDef as Header}
 use Rattle.reflection.specs.declared.ResourceBinding.{ResourceBinding as BindingRecord}
 use Rattle.reflection.specs.declared.CBufferDef.{CBufferDef as BufferRecord}
 use Rattle.reflection.specs.declared.CBufferVariable.{CBufferVariable as VariableRecord}
 use Rattle.reflection.specs.declared.TypeDesc.{TypeDesc as TypeRecord}
-use Rattle.reflection.specs.Outcome.{Outcome, ok, refused}
 use Rattle.reflection.specs.Reflection.{all_variables, CBufferVariable, CBufferDef, ResourceBinding, ResourceDef, identifier_of}
 use Rattle.reflection.specs.Reflection.{stride_of, slots_of}
 use Rattle.tables.specs.Nodes.{Node, nodes_of}
@@ -86,8 +86,8 @@ padded n words = words ++ replicate (n - length words) 0
 
 -- What a table of n words holds after an outcome.
 unfoldable pub table : (ResourceDef Text Text → List ℕ) → Outcome (ResourceDef Text Text) → ℕ → List ℕ
-table rows (ok r) n = padded n (rows r)
-table rows (refused e) n = replicate n 0
+table rows (Ok r) n = padded n (rows r)
+table rows (Err e) n = replicate n 0
 
 -- The header: the numbers that are handed back by value.
 unfoldable pub header_of : ResourceDef Text Text → Header

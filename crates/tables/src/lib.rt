@@ -19,7 +19,7 @@ fn put_record(table: &mut [u32], width: usize, i: usize, row: &[u32])
     ensures { table.new ≡ put_record width table.old i row.now }
 {
     if i < table.len() / width {
-        words::put_words(table, i * width, row);
+        words::overwrite(table, i * width, row);
     }
 }
 
@@ -109,6 +109,7 @@ pub fn put_type(table: &mut [u32], i: usize, t: TypeDesc)
 }
 
 // The words of record i, and zeros up to the width of the widest record; only zeros where record i does not lie whole in the table.
+// Zeros and no Option: a table is read for any number of a record (docs/DECISIONS.md).
 fn record_words(table: &[u32], width: usize, i: usize) -> [u32; TYPE_WORDS]
     requires { (0 < width) × (width ≤ type_width) }
     ensures { (k : ℕ) → k < width → get_or result k 0 ≡ record_word width table.now i k }
@@ -118,7 +119,7 @@ fn record_words(table: &[u32], width: usize, i: usize) -> [u32; TYPE_WORDS]
     if i < held {
         let at = i * width;
         let end = at + width;
-        words::put_words(&mut row, 0, &table[at..end]);
+        words::overwrite(&mut row, 0, &table[at..end]);
     }
     row
 }

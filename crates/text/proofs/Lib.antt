@@ -1,5 +1,4 @@
 pub mod Bools
-pub mod Ranges
 pub mod Runs
 pub mod Sequences
 pub mod Strings

@@ -1,9 +1,9 @@
 -- Each byte fits after the three before it exactly where the bytes are Table 3-7's: the three say how many bytes of a sequence are still to come.
 use mathlib.Core.Path.{◌≡◌, refl, sym, ap, ◌∙◌}
-use mathlib.Core.Bool.{Bool, true, false, not, ◌&&◌, ◌||◌, cond}
+use mathlib.Core.Bool.{Bool, true, false, not, ◌&&◌, ◌||◌, cond, and_assoc}
 use mathlib.Core.List.{List, [], ◌∷◌}
 use mathlib.Core.Logic.{◌⊎◌, inl, inr, ⊎_elim}
-use Prim.Native.Nat.{ℕ, zero, suc, ◌+◌, ◌-◌, ◌<◌, ◌≤◌, zero-le}
+use Prim.Native.Nat.{ℕ, zero, suc, ◌+◌, ◌-◌, ◌<◌, ◌≤◌}
 use native.Mathlib.Numerals.{add-one}
 use native.Mathlib.Omega.{arith}
 use borrow.Author.Tests.{le-leb, lt-leb, lt-ltb, le-ltb, ne_eqb, leb-true, ltb-true, ltb-false}
@@ -13,9 +13,9 @@ use lib.Seq.{drop-cons}
 use Rattle.text.specs.Utf8.{Left, tail, table37, begun, run, whole, well_formed}
 use Rattle.text.specs.Sequences.{tails_after, lowest_after, highest_after}
 use Rattle.text.specs.Neighbours.{tail_due, may_follow, may_begin, fits, fits_from}
-use Rattle.text.proofs.Bools.{and-true, and_assoc}
+use Rattle.std.proofs.lemmas.Bool.{and_parts}
 use Rattle.text.proofs.Runs.{begun_ascii, run_ill_formed}
-use Rattle.text.proofs.Sequences.{awaits, awaits_tails, awaits_not_whole, by_numbers, begun_by_numbers}
+use Rattle.text.proofs.Sequences.{awaits, awaits_tails, awaits_not_whole, no_tails, some_tails}
 
 or-true : (a : Bool) → (a || true) ≡ true
 or-true true = refl
@@ -86,30 +86,6 @@ First b =
     → ToCome n p2 p1 b)))
 
 module _ (b : ℕ) where
-  -- no row of the table has a byte from 256 on
-  begun_past : 256 ≤ b → begun table37 b ≡ Left.ill_formed
-  begun_past h =
-      rw (
-        le-leb 0 b zero-le,
-        lt-leb b 0x7f (omega arith),
-        le-leb 0xc2 b (omega arith),
-        lt-leb b 0xdf (omega arith),
-        le-leb 0xe0 b (omega arith),
-        lt-leb b 0xe0 (omega arith),
-        le-leb 0xe1 b (omega arith),
-        lt-leb b 0xec (omega arith),
-        le-leb 0xed b (omega arith),
-        lt-leb b 0xed (omega arith),
-        le-leb 0xee b (omega arith),
-        lt-leb b 0xef (omega arith),
-        le-leb 0xf0 b (omega arith),
-        lt-leb b 0xf0 (omega arith),
-        le-leb 0xf1 b (omega arith),
-        lt-leb b 0xf3 (omega arith),
-        le-leb 0xf4 b (omega arith),
-        lt-leb b 0xf4 (omega arith),
-      )
-
   ascii_first : b < 0x80 → First b
   ascii_first h = inr (rw (lt-ltb b 0x80 h), (0, begun_ascii b h, λ p2 p1 h1 h2. (omega arith, omega arith, omega arith)))
 
@@ -117,39 +93,30 @@ module _ (b : ℕ) where
   begins : 0xc2 ≤ b → b < 0xf5 → may_begin b ≡ true
   begins h g = rw (le-ltb b 0x80 (omega arith), le-leb 0xc2 b h, lt-ltb b 0xf5 g)
 
-  no_tails : tails_after b ≡ 0 → 0x80 ≤ b → b < 256 → begun table37 b ≡ Left.ill_formed
-  unfolding by_numbers
-  no_tails e h g = begun_by_numbers b h g ∙ rw e
-
-  some_tails : (n : ℕ) → tails_after b ≡ suc n → 0x80 ≤ b → b < 256 → begun table37 b ≡ awaits (suc n) (lowest_after b) (highest_after b)
-  unfolding by_numbers
-  some_tails n e h g = begun_by_numbers b h g ∙ rw (ne_eqb (tails_after b) 0 (λ z. omega arith), e)
+  so_many : (n : ℕ) → tails_after b ≡ suc n → 0x80 ≤ b → begun table37 b ≡ awaits (suc n) (lowest_after b) (highest_after b)
+  so_many n e h = some_tails b h (λ z. omega arith) ∙ ap (λ (k : ℕ). awaits k (lowest_after b) (highest_after b)) e
 
   from_80 : (is-low is-two is-three is-four : Bool) → ltb b 0xc2 ≡ is-low → ltb b 0xe0 ≡ is-two → ltb b 0xf0 ≡ is-three → ltb b 0xf5 ≡ is-four
       → 0x80 ≤ b → First b
   unfolding tails_after
   from_80 true is-two is-three is-four l t r f h =
       let low = ltb-true b 0xc2 l in
-      inl (rw (le-ltb b 0x80 h, lt-leb 0xc2 b low), no_tails (rw l) h (omega arith))
+      inl (rw (le-ltb b 0x80 h, lt-leb 0xc2 b low), no_tails b h (rw l))
   from_80 false true is-three is-four l t r f h =
       let low = ltb-false b 0xc2 l in
       let high = ltb-true b 0xe0 t in
-      inr (begins low (omega arith), (1, some_tails 0 (rw (l, t)) h (omega arith), λ p2 p1 h1 h2. (due_first p2 p1 b (omega arith), high, omega arith)))
+      inr (begins low (omega arith), (1, so_many 0 (rw (l, t)) h, λ p2 p1 h1 h2. (due_first p2 p1 b (omega arith), high, omega arith)))
   from_80 false false true is-four l t r f h =
       let low = ltb-false b 0xe0 t in
       let high = ltb-true b 0xf0 r in
-      inr (begins (omega arith) (omega arith), (2, some_tails 1 (rw (l, t, r)) h (omega arith), λ p2 p1 h1 h2. (inl low, high)))
+      inr (begins (omega arith) (omega arith), (2, so_many 1 (rw (l, t, r)) h, λ p2 p1 h1 h2. (inl low, high)))
   from_80 false false false true l t r f h =
       let low = ltb-false b 0xf0 r in
       let high = ltb-true b 0xf5 f in
-      inr (begins (omega arith) high, (3, some_tails 2 (rw (l, t, r, f)) h (omega arith), λ p2 p1 h1 h2. low))
+      inr (begins (omega arith) high, (3, so_many 2 (rw (l, t, r, f)) h, λ p2 p1 h1 h2. low))
   from_80 false false false false l t r f h =
       let low = ltb-false b 0xf5 f in
-      inl (rw (le-ltb b 0x80 h, le-leb 0xc2 b (omega arith), f), past (ltb b 256) refl)
-    where
-      past : (is_byte_lem : Bool) → ltb b 256 ≡ is_byte_lem → begun table37 b ≡ Left.ill_formed
-      past true e = no_tails (rw (l, t, r, f)) h (ltb-true b 256 e)
-      past false e = begun_past (ltb-false b 256 e)
+      inl (rw (le-ltb b 0x80 h, le-leb 0xc2 b (omega arith), f), no_tails b h (rw (l, t, r, f)))
 
 first : (b : ℕ) → First b
 first b = go (ltb b 0x80) refl
@@ -177,7 +144,7 @@ fits_run (b ∷ bs) (suc n) p3 p2 p1 h =
         → (b < 0xc0 → fits_from p2 p1 b bs ≡ whole (run (awaits n (lowest_after b) (highest_after b)) bs))
         → (may_follow p1 b && fits_from p2 p1 b bs) ≡ whole (run (cond (may_follow p1 b) (Left.columns (replicate n tail)) Left.ill_formed) bs)
     go true e others =
-        let high = leb-true b (highest_after p1) (and-true (leb (lowest_after p1) b) (leb b (highest_after p1)) e).1 in
+        let high = leb-true b (highest_after p1) (and_parts (leb (lowest_after p1) b) (leb b (highest_after p1)) e).1 in
         let low : b < 0xc0 = omega (arith, highest_is_tail p1) in
         rw e (others low ∙ sym (ap (λ l. whole (run l bs)) (tails_left b low n)))
     go false e others = rw e (sym (ap whole (run_ill_formed bs)))
@@ -210,7 +177,7 @@ module _ (s : List ℕ) where
       fits_well_formed s ∙ fits_here s 0 0 0 0 (omega arith)
       ∙ ap (λ t. one && t) (fits_here s 1 0 0 (get_or s 0 0) (omega arith))
       ∙ ap (λ t. one && (two && t)) (fits_here s 2 0 (get_or s 0 0) (get_or s 1 0) h)
-      ∙ and_assoc one two (three && others) ∙ and_assoc (one && two) three others
+      ∙ sym (and_assoc one two (three && others)) ∙ sym (and_assoc (one && two) three others)
 
   pub fits_next : (i : ℕ) → 3 ≤ i → i < length s
       → fits_from (get_or s (i - 3) 0) (get_or s (i - 2) 0) (get_or s (i - 1) 0) (drop i s)

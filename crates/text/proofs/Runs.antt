@@ -1,24 +1,12 @@
 -- Running Table 3-7 over a list: byte by byte, over two lists one after the other, and over bytes below 0x80.
-use mathlib.Core.Path.{◌≡◌, refl, sym, ap, ◌∙◌}
+use mathlib.Core.Path.{◌≡◌, refl, ap, ◌∙◌}
 use mathlib.Core.Bool.{true}
 use mathlib.Core.List.{List, [], ◌∷◌, ◌++◌}
-use Prim.Native.Nat.{ℕ, suc, ◌+◌, ◌<◌, ◌≤◌, zero-le}
-use native.Mathlib.Numerals.{add-one}
+use Prim.Native.Nat.{ℕ, suc, ◌<◌, zero-le}
 use native.Mathlib.Omega.{arith}
 use borrow.Author.Tests.{le-leb}
-use lib.ListN.{length, get_or, drop, drop_of_length-le}
-use lib.Seq.{drop-cons}
+use lib.ListN.{length, get_or}
 use Rattle.text.specs.Utf8.{Left, begun, step, run, table37, whole, well_formed}
-
--- what the bytes from i on do: the byte at i, then those from i + 1 on
-pub run_byte : (l : Left) (s : List ℕ) (i : ℕ) → i < length s → run l (drop i s) ≡ run (step l (get_or s i 0)) (drop (i + 1) s)
-unfolding run
-run_byte l s i h = rw (add-one, drop-cons s i 0)
-
--- past the end nothing changes
-pub run_end : (l : Left) (s : List ℕ) (i : ℕ) → length s ≤ i → run l (drop i s) ≡ l
-unfolding run
-run_end l s i h = rw (drop_of_length-le s h)
 
 -- what is ill-formed stays so
 pub run_ill_formed : (bs : List ℕ) → run Left.ill_formed bs ≡ Left.ill_formed
@@ -46,15 +34,14 @@ well_formed_append xs ys p q =
 pub begun_ascii : (b : ℕ) → b < 0x80 → begun table37 b ≡ Left.columns []
 begun_ascii b h = rw (le-leb 0 b zero-le, le-leb b 0x7f (omega arith))
 
-pub run_ascii_byte : (s : List ℕ) (i : ℕ) → i < length s → get_or s i 0 < 0x80
-    → run (Left.columns []) (drop (i + 1) s) ≡ run (Left.columns []) (drop i s)
-run_ascii_byte s i h e = sym (run_byte (Left.columns []) s i h ∙ ap (λ (l : Left). run l (drop (i + 1) s)) (begun_ascii (get_or s i 0) e))
+pub run_ascii_byte : (b : ℕ) (bs : List ℕ) → b < 0x80 → run (Left.columns []) (b ∷ bs) ≡ run (Left.columns []) bs
+unfolding run
+run_ascii_byte b bs h = ap (λ (l : Left). run l bs) (begun_ascii b h)
 
 run_ascii : (bs : List ℕ) → ((k : ℕ) → k < length bs → get_or bs k 0 < 0x80) → run (Left.columns []) bs ≡ Left.columns []
 unfolding run
 run_ascii [] h = refl
-run_ascii (b ∷ bs) h =
-    ap (λ (l : Left). run l bs) (begun_ascii b (h 0 (omega arith))) ∙ run_ascii bs (λ k g. h (suc k) (omega arith))
+run_ascii (b ∷ bs) h = run_ascii_byte b bs (h 0 (omega arith)) ∙ run_ascii bs (λ k g. h (suc k) (omega arith))
 
 -- a list whose bytes are all below 0x80 is well-formed
 pub well_formed_ascii : (bs : List ℕ) → ((k : ℕ) → k < length bs → get_or bs k 0 < 0x80) → well_formed bs ≡ true

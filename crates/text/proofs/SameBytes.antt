@@ -1,56 +1,50 @@
 -- `same_bytes` is true exactly where the two lists are equal: by the lists, one byte of each at a time.
-use mathlib.Core.Path.{◌≡◌, refl, ap, subst}
-use mathlib.Core.Bool.{true, false, ◌&&◌}
+use mathlib.Core.Path.{◌≡◌, refl, ap}
+use mathlib.Core.Bool.{Bool, true, false, ◌&&◌}
 use mathlib.Core.List.{List, [], ◌∷◌}
 use mathlib.Core.Logic.{◌↔◌}
-use Prim.Native.Nat.{ℕ, ◌+◌, ◌<◌, ◌≤◌}
-use native.Mathlib.Numerals.{add-one}
-use borrow.Author.Tests.{eq-eqb, eqb-true}
+use Prim.Native.Nat.{ℕ, ◌<◌}
 use lib.Dec.{eqb}
-use lib.ListN.{length, get_or, drop, drop_of_length-le}
-use lib.Seq.{ext_get_or, drop-cons}
+use lib.ListN.{length, get_or}
+use lib.Seq.{ext_get_or}
+use Rattle.std.specs.Bool.{Decides}
+use Rattle.std.specs.Cmp.Lexicographic.{pointwise}
+use Rattle.std.proofs.Common.{rules}
+use Rattle.std.proofs.lemmas.Bool.{false_from_ne_true}
+use Rattle.std.proofs.lemmas.Slice.Eq.{compares_Decides}
 use Rattle.text.specs.Same.{same_bytes}
-use Rattle.text.proofs.Bools.{and-true, false_unless}
+
+same_bytes_decides : (xs ys : List ℕ) → Decides (same_bytes xs ys) (xs ≡ ys)
+unfolding same_bytes
+same_bytes_decides = compares_Decides same_bytes (search rules)
 
 pub same_bytes_equal : (xs ys : List ℕ) → same_bytes xs ys ≡ true → xs ≡ ys
-unfolding same_bytes
-same_bytes_equal [] [] e = refl
-same_bytes_equal [] (y ∷ ys) e = cc
-same_bytes_equal (x ∷ xs) [] e = cc
-same_bytes_equal (x ∷ xs) (y ∷ ys) e =
-    let (first, others) = and-true (eqb x y) (same_bytes xs ys) e in
-    let p : x ≡ y = eqb-true x y first in
-    let q : xs ≡ ys = same_bytes_equal xs ys others in
-    cc
-
-pub same_bytes_refl : (xs : List ℕ) → same_bytes xs xs ≡ true
-unfolding same_bytes
-same_bytes_refl [] = refl
-same_bytes_refl (x ∷ xs) = rw (eq-eqb x x refl) (same_bytes_refl xs)
+same_bytes_equal xs ys = (same_bytes_decides xs ys).0
 
 pub equal_same_bytes : (xs ys : List ℕ) → xs ≡ ys → same_bytes xs ys ≡ true
-equal_same_bytes xs ys e = subst (λ (l : List ℕ). same_bytes xs l ≡ true) e (same_bytes_refl xs)
+equal_same_bytes xs ys = (same_bytes_decides xs ys).1
+
+pub same_bytes_refl : (xs : List ℕ) → same_bytes xs xs ≡ true
+same_bytes_refl xs = equal_same_bytes xs xs refl
 
 pub same_bytes_iff : (xs ys : List ℕ) → (same_bytes xs ys ≡ true) ↔ (xs ≡ ys)
 same_bytes_iff xs ys = (same_bytes_equal xs ys, equal_same_bytes xs ys)
 
 -- lists that are not as long, or differ at an index, are not the same
 pub other_length : (xs ys : List ℕ) → (length xs ≡ length ys → ⊥) → same_bytes xs ys ≡ false
-other_length xs ys h = false_unless (same_bytes xs ys) (λ e. h (ap length (same_bytes_equal xs ys e)))
+other_length xs ys h = false_from_ne_true (same_bytes xs ys) (λ e. h (ap length (same_bytes_equal xs ys e)))
 
 pub other_byte : (xs ys : List ℕ) (i : ℕ) → (get_or xs i 0 ≡ get_or ys i 0 → ⊥) → same_bytes xs ys ≡ false
-other_byte xs ys i h = false_unless (same_bytes xs ys) (λ e. h (ap (λ (l : List ℕ). get_or l i 0) (same_bytes_equal xs ys e)))
+other_byte xs ys i h = false_from_ne_true (same_bytes xs ys) (λ e. h (ap (λ (l : List ℕ). get_or l i 0) (same_bytes_equal xs ys e)))
 
 -- lists as long that agree at every index are the same
 pub all_bytes : (xs ys : List ℕ) → length xs ≡ length ys → ((k : ℕ) → k < length xs → get_or xs k 0 ≡ get_or ys k 0) → same_bytes xs ys ≡ true
 all_bytes xs ys h e = equal_same_bytes xs ys (ext_get_or 0 xs ys h e)
 
--- the bytes from i on: those at i, then those from i + 1 on; past both ends there are none
-pub same_bytes_from : (xs ys : List ℕ) (i : ℕ) → i < length xs → i < length ys
-    → same_bytes (drop i xs) (drop i ys) ≡ (eqb (get_or xs i 0) (get_or ys i 0) && same_bytes (drop (i + 1) xs) (drop (i + 1) ys))
+-- it is what `==` of slices says
+pub same_bytes_pointwise : (xs ys : List ℕ) → pointwise eqb xs ys ≡ same_bytes xs ys
 unfolding same_bytes
-same_bytes_from xs ys i h g = rw (drop-cons xs i 0 h, drop-cons ys i 0 g, add-one i)
-
-pub same_bytes_past : (xs ys : List ℕ) (i : ℕ) → length xs ≤ i → length ys ≤ i → same_bytes (drop i xs) (drop i ys) ≡ true
-unfolding same_bytes
-same_bytes_past xs ys i h g = rw (drop_of_length-le xs h, drop_of_length-le ys g)
+same_bytes_pointwise [] [] = refl
+same_bytes_pointwise [] (y ∷ ys) = refl
+same_bytes_pointwise (x ∷ xs) [] = refl
+same_bytes_pointwise (x ∷ xs) (y ∷ ys) = ap (λ (t : Bool). eqb x y && t) (same_bytes_pointwise xs ys)

@@ -1,10 +1,7 @@
 -- Vocabulary of internal contracts: no contract of an exported function and no demand cites it.
 -- Table 3-7 by the first byte of a sequence: how many bytes follow it, and between which the second lies. `utf8_ok` goes by these numbers;
 -- proofs/Sequences.antt shows that they are the table's.
-use Rattle.std.specs.Prelude.{false, cond, ◌≡◌, List, [], ℕ, ◌<◌, ◌≤◌, eqb, ltb, length, drop}
-use Rattle.text.specs.Utf8.{Left, run, whole}
-use Rattle.text.specs.declared.Sequence.{Sequence}
-use Rattle.text.specs.declared.Sequence.TheVariants.{To, IllFormed}
+use Rattle.std.specs.Prelude.{cond, ℕ, eqb, ltb}
 
 -- How many bytes follow the first byte of a sequence of two to four bytes; 0 where no such sequence begins so.
 unfoldable pub tails_after : ℕ → ℕ
@@ -16,8 +13,3 @@ lowest_after b = cond (eqb b 0xe0) 0xa0 (cond (eqb b 0xf0) 0x90 0x80)
 
 unfoldable pub highest_after : ℕ → ℕ
 highest_after b = cond (eqb b 0xed) 0x9f (cond (eqb b 0xf4) 0x8f 0xbf)
-
--- The sequence at an index ends where it is said to: the bytes from its end on decide like those from the index on. Or no sequence is there.
-abbrev pub SequenceEnd : List ℕ → ℕ → Sequence → Type 0
-SequenceEnd s at (To end) = (at < end) × (end ≤ length s) × (run (Left.columns []) (drop end s) ≡ run (Left.columns []) (drop at s))
-SequenceEnd s at IllFormed = whole (run (Left.columns []) (drop at s)) ≡ false

@@ -1,4 +1,4 @@
 pub mod Digits
 pub mod Fitting
-pub mod Lines
 pub mod NameLength
+pub mod Lines

@@ -1,18 +1,32 @@
--- Lines: a turn of the two loops that look for them, and the law of a table of texts, that line n of the texts as lines is text n.
-use mathlib.Core.Path.{◌≡◌, refl, sym, ap, ◌∙◌}
+-- A table of texts as one text, each a line: line n of it is text n. The tables of names and sentences were such texts once; today a `match` on an enum
+-- gives each of them, and the law stands for texts that are read by lines.
+use Rattle.std.specs.Prelude.{cond}
+use mathlib.Core.Path.{◌≡◌, refl, ap, ◌∙◌}
 use mathlib.Core.Bool.{Bool, true, false, not, ◌&&◌}
-use mathlib.Core.List.{List, [], ◌∷◌, ◌++◌, append-nil}
-use Prim.Native.Nat.{ℕ, zero, suc, ◌+◌, ◌-◌, ◌≤◌, ◌<◌}
-use native.Mathlib.Numerals.{add-one}
-use native.Mathlib.Omega.{arith}
-use borrow.Author.Tests.{eq-eqb, ne_eqb, not-true}
+use mathlib.Core.List.{List, [], ◌∷◌, ◌++◌}
+use Prim.Native.Nat.{ℕ, zero, suc}
+use borrow.Author.Tests.{not-true}
 use lib.Dec.{eqb}
-use lib.ListN.{length, get_or, take, drop, length-drop, drop_of_length-le}
-use lib.Seq.{drop-cons, take-suc, take_all, append_snoc}
-use Rattle.words.specs.Parts.{part}
-use Rattle.words.proofs.Parts.{fits_inside, part_inside}
+use lib.ListN.{get_or}
 use Rattle.text.proofs.Bools.{and-true}
-use Rattle.text_output.specs.Lines.{first_line, after_line, after_lines, line}
+
+-- The bytes before the first newline, and those after it.
+unfoldable pub first_line : List ℕ → List ℕ
+first_line [] = []
+first_line (b ∷ bs) = cond (eqb b 10) [] (b ∷ first_line bs)
+
+unfoldable pub after_line : List ℕ → List ℕ
+after_line [] = []
+after_line (b ∷ bs) = cond (eqb b 10) bs (after_line bs)
+
+-- What follows n lines.
+unfoldable pub after_lines : ℕ → List ℕ → List ℕ
+after_lines zero text = text
+after_lines (suc n) text = after_lines n (after_line text)
+
+-- Line n, counted from 0; empty where there is none.
+abbrev pub line : ℕ → List ℕ → List ℕ
+line n text = first_line (after_lines n text)
 
 -- the byte before a text is a newline, or is not
 module _ (b : ℕ) (bs : List ℕ) where
@@ -36,64 +50,6 @@ pub no_lines : (n : ℕ) → after_lines n [] ≡ []
 unfolding after_lines after_line
 no_lines zero = refl
 no_lines (suc n) = no_lines n
-
--- a turn of either loop, at the byte at i
-module _ (s : List ℕ) (i : ℕ) (more : i < length s) where
-  next_byte : drop i s ≡ get_or s i 0 ∷ drop (i + 1) s
-  next_byte = rw add-one (drop-cons s i 0 more)
-
-  module _ (left : ℕ) {all : List ℕ} (kept : after_lines left (drop i s) ≡ all) (some : 0 < left) where
-    by_line : after_lines (left - 1) (after_line (drop i s)) ≡ all
-    unfolding after_lines
-    by_line = let e : left ≡ suc (left - 1) = omega arith in rw e at kept
-
-    pub line_passed : get_or s i 0 ≡ 10 → after_lines (left - 1) (drop (i + 1) s) ≡ all
-    line_passed e =
-        ap (after_lines (left - 1)) (sym (ap after_line next_byte ∙ after_newline (get_or s i 0) (drop (i + 1) s) (eq-eqb (get_or s i 0) 10 e))) ∙ by_line
-
-    pub byte_passed : (get_or s i 0 ≡ 10 → ⊥) → after_lines left (drop (i + 1) s) ≡ all
-    unfolding after_lines
-    byte_passed e =
-        let same = ap after_line next_byte ∙ after_other (get_or s i 0) (drop (i + 1) s) (ne_eqb (get_or s i 0) 10 e) in
-        let one_left : left ≡ suc (left - 1) = omega arith in
-        ap (λ (n : ℕ). after_lines n (drop (i + 1) s)) one_left ∙ ap (after_lines (left - 1)) (sym same) ∙ by_line
-
-  module _ {all : List ℕ} (kept : take i s ++ first_line (drop i s) ≡ all) where
-    pub line_ended : get_or s i 0 ≡ 10 → take i s ≡ all
-    line_ended e =
-        sym (append-nil (take i s))
-        ∙ ap (λ (l : List ℕ). take i s ++ l) (sym (ap first_line next_byte ∙ line_ends (get_or s i 0) (drop (i + 1) s) (eq-eqb (get_or s i 0) 10 e)))
-        ∙ kept
-
-    pub line_longer : (get_or s i 0 ≡ 10 → ⊥) → take (i + 1) s ++ first_line (drop (i + 1) s) ≡ all
-    line_longer e =
-        let b = get_or s i 0 in
-        let rest = first_line (drop (i + 1) s) in
-        let same = ap first_line next_byte ∙ line_goes_on b (drop (i + 1) s) (ne_eqb b 10 e) in
-        ap (λ (k : ℕ). take k s ++ rest) (add-one i)
-        ∙ ap (λ (l : List ℕ). l ++ rest) (take-suc s i 0 more)
-        ∙ append_snoc (take i s) b rest
-        ∙ ap (λ (l : List ℕ). take i s ++ l) (sym same)
-        ∙ kept
-
--- the text is over
-module _ (s : List ℕ) (i : ℕ) (end : length s ≤ i) {all : List ℕ} where
-  pub past_lines : (left : ℕ) → after_lines left (drop i s) ≡ all → drop i s ≡ all
-  past_lines left kept = let none = drop_of_length-le s end in none ∙ sym (no_lines left) ∙ ap (after_lines left) (sym none) ∙ kept
-
-  pub last_line : take i s ++ first_line (drop i s) ≡ all → take i s ≡ all
-  unfolding first_line
-  last_line kept = sym (append-nil (take i s)) ∙ ap (λ (l : List ℕ). take i s ++ first_line l) (sym (drop_of_length-le s end)) ∙ kept
-
--- the part of a table that the two loops found: the first line of what follows n lines
-pub line_part : (table : List ℕ) (n start count : ℕ) → start ≤ length table → drop start table ≡ after_lines n table
-    → count ≤ length (take (length table - start) (drop start table))
-    → take count (take (length table - start) (drop start table)) ≡ first_line (take (length table - start) (drop start table))
-    → part table start count ≡ line n table
-line_part table n start count within found short is =
-    let whole = take_all (length table - start) (drop start table) (omega (arith, length-drop start table)) in
-    let fits : start + count ≤ length table = omega (arith, ap length whole, length-drop start table) in
-    part_inside table start count (fits_inside (length table) start count fits) ∙ rw whole at is ∙ ap first_line found
 
 -- Texts as lines, and whether each is a line: no newline in it.
 abbrev pub lines : List (List ℕ) → List ℕ
@@ -133,13 +89,3 @@ line_of (text ∷ texts) h (suc n) =
 -- The law of a table: where it is the texts as lines (two computed tests), its entry n is text n, for every n.
 pub entry_is : (texts : List (List ℕ)) {table : List ℕ} → table ≡ lines texts → are_lines texts ≡ true → (n : ℕ) → line n table ≡ get_or texts n []
 entry_is texts same each n = ap (line n) same ∙ line_of texts each n
-
--- Each text has at most so many bytes (a computed test); so has text n, for every n.
-abbrev pub Short : ℕ → List (List ℕ) → Type 0
-Short most [] = Unit
-Short most (text ∷ texts) = (length text ≤ most) × Short most texts
-
-pub short_text : (most : ℕ) (texts : List (List ℕ)) → Short most texts → (n : ℕ) → length (get_or texts n []) ≤ most
-short_text most [] h n = omega arith
-short_text most (text ∷ texts) h zero = h.0
-short_text most (text ∷ texts) h (suc n) = short_text most texts h.1 n

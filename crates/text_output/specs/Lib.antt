@@ -1,6 +1,5 @@
 pub mod Written
 pub mod Cursor
 pub mod Digits
-pub mod Lines
 pub mod Ascii
 pub mod Printable

@@ -1,11 +1,13 @@
 -- A text written to a lent output: document 01, "Refusals" (17; zeros on a refusal; what lies past the written length keeps its old content).
-use Rattle.std.specs.Prelude.{Bool, cond, List, ◌≡◌, ℕ, min, leb, length, replicate}
+use Rattle.reflection.specs.Outcome.{Outcome}
+use Rattle.reflection.specs.declared.refusal.Refusal.TheVariants.{OutputTooSmall}
+use Rattle.std.specs.Prelude.{Bool, cond, List, ◌≡◌, ℕ, min, leb, length, replicate, Ok, Err}
 use Rattle.words.specs.Splice.{splice}
 use Rattle.reflection.specs.Limits.{chunk_limit}
-use Rattle.reflection.specs.Refusals.{output_too_small}
-use Rattle.reflection.specs.Outcome.{Outcome, ok, refused, because}
-use Rattle.text_output.specs.declared.Written.{Written}
-use Rattle.text_output.specs.declared.Written.TheVariants.{Wrote, Refused}
+
+-- What writing to a lent output answers: how many bytes were written, or why nothing was.
+abbrev pub Written : Type 0
+Written = Outcome ℕ
 
 -- Whether so many bytes fit an output with this room, and are no more than a chunk may have.
 abbrev pub fits_in : ℕ → ℕ → Bool
@@ -13,18 +15,18 @@ fits_in room n = leb n (min room chunk_limit)
 
 -- The bytes, where they fit; else 17.
 unfoldable pub fitting : ℕ → Outcome (List ℕ) → Outcome (List ℕ)
-fitting room (ok bytes) = cond (fits_in room (length bytes)) (ok bytes) (refused (because output_too_small))
-fitting room (refused e) = refused e
+fitting room (Ok bytes) = cond (fits_in room (length bytes)) (Ok bytes) (Err OutputTooSmall)
+fitting room (Err e) = Err e
 
 -- The answer's two cases: how many bytes were written, or the refusal.
 unfoldable pub written_of : Outcome (List ℕ) → Written
-written_of (ok bytes) = Wrote (length bytes)
-written_of (refused e) = Refused e
+written_of (Ok bytes) = Ok (length bytes)
+written_of (Err e) = Err e
 
 -- What the output then holds.
 unfoldable pub output_of : Outcome (List ℕ) → List ℕ → List ℕ
-output_of (ok bytes) out = splice out 0 bytes
-output_of (refused e) out = replicate (length out) 0
+output_of (Ok bytes) out = splice out 0 bytes
+output_of (Err e) out = replicate (length out) 0
 
 -- How a function answers that writes an outcome's bytes to a lent output: its answer, and what the output then holds, are those of the bytes that fit.
 pub record Answers (outcome : Outcome (List ℕ)) (before after : List ℕ) (r : Written) : Type 0 where

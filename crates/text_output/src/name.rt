@@ -5,11 +5,10 @@ ghost use Rattle.text_output.specs.Printable.{printable};
 use reflection::Text;
 
 // Whether a name can be printed: in place, and UTF-8.
-pub fn printable<'a>(chunk: &'a [u8], edits: &'a [u8], name: Text) -> bool
+#[tactic(auto, unfolding(crate::specs::Printable::printable))]
+pub fn printable(chunk: &[u8], edits: &[u8], name: Text) -> bool
     ensures { result ≡ printable chunk.now edits.now name }
 {
-    if reflection::in_place(chunk, edits, name) {
-        return text::utf8_ok(reflection::name_part(chunk, edits, name));
-    }
-    false
+    reflection::in_place(chunk, edits, name)
+        && text::utf8_ok(reflection::name_part(chunk, edits, name))
 }

@@ -1,5 +1,7 @@
 -- ROUND TRIP OF THE EXPORTED FUNCTIONS (specs/RoundTrip.antt): by that of the functions that are exported (crate theorem_functions). What was read holds what
 -- was lent, so a second call with as much scratch and output comes to the same.
+use Rattle.reflection.specs.Outcome.{Outcome}
+use Rattle.std.specs.Prelude.{Ok}
 use mathlib.Core.Path.{◌≡◌, refl, sym, ap, subst, ◌∙◌}
 use mathlib.Core.List.{List, [], ◌∷◌}
 use Prim.Native.Nat.{ℕ, ◌≤◌, min}
@@ -7,7 +9,6 @@ use native.Mathlib.Omega.{arith}
 use lib.ListN.{length as size, take}
 use Rattle.words.specs.Splice.{splice}
 use Rattle.reflection.specs.declared.ResourceDef.{ResourceDef as Header}
-use Rattle.reflection.specs.Outcome.{Outcome, ok}
 use Rattle.reflection.specs.Contents.{Bytes}
 use Rattle.readable.specs.Readable.{table_contents}
 use Rattle.text_output.specs.Written.{written_of, output_of}
@@ -58,7 +59,7 @@ module _ (s : Side) where
         ≡ reflection_in (lent_by s) =
         (λ i. table_contents (lent.chunk i) (lent.edits i) (header_at (lent.header i)) (lent.bindings i) (lent.buffers i) (lent.variables i)
         (lent.types i)) ∙ all_restored in
-        let formed : canonical_into l.chunk l.edits l.header l.bindings l.buffers l.variables l.types l.scratch l.out ≡ ok bytes =
+        let formed : canonical_into l.chunk l.edits l.header l.bindings l.buffers l.variables l.types l.scratch l.out ≡ Ok bytes =
         (λ i. write (lent.scratch i) (lent.out i) (same-held i)) ∙ side.formed in
         let fits = (written_form (size s.given.scratch) (size s.given.out) (reflection_in (lent_by s)) bytes side.formed).fits in
         let out : after.out ≡ splice l.out 0 bytes = writing.text.out ∙ ap (λ (o : Outcome Bytes). output_of o l.out) formed in

@@ -8,8 +8,9 @@
 -- scratch zero.
 --
 -- Definitions that this rests on: those of crates/theorem_functions/specs/Noninterference.antt, and Calls.antt. proofs/Noninterference.antt proves it.
+use Rattle.reflection.specs.Refusals.{refusal_number}
+use Rattle.reflection.specs.declared.refusal.Refusal.{Refusal}
 use Rattle.std.specs.Prelude.{◌≡◌, [], ◌∷◌, ℕ, length as size, replicate}
-use Rattle.reflection.specs.declared.Refusal.{Refusal}
 use Rattle.reflection.specs.declared.ResourceDef.{ResourceDef as Header}
 use Rattle.nontrefalcu.specs.Exports.{header_words_in_table}
 use Rattle.theorem_functions.specs.Noninterference.{RefusedSide, SidesAlike}
@@ -17,7 +18,7 @@ use Rattle.theorem_exports.specs.Calls.{Side, lent_by, left_after}
 
 -- A side whose writer answered this refusal's number, and left zeros.
 pub record RefusedExport (s : Side) (e : Refusal) : Type 0 where
-  pub answer : s.wrote.number ≡ e.number
+  pub answer : s.wrote.number ≡ refusal_number e
   pub length_zero : s.wrote.length ≡ replicate (size s.given.length) 0
   pub zeros : RefusedSide (lent_by s) (left_after s)
 

@@ -6,8 +6,8 @@
 -- with as much scratch and output, answers 0 and n again and writes the same n bytes.
 --
 -- Definitions that this rests on: `table_contents` (crates/readable/specs/Readable.antt) and Calls.antt. proofs/RoundTrip.antt proves it.
+use Rattle.reflection.specs.declared.refusal.Refusal.{Refusal}
 use Rattle.std.specs.Prelude.{◌≡◌, [], ◌∷◌, ℕ, length as size, take}
-use Rattle.reflection.specs.declared.Refusal.{Refusal}
 use Rattle.readable.specs.Readable.{table_contents}
 use Rattle.nontrefalcu.specs.Exports.{header_at}
 use Rattle.theorem_functions.specs.Calls.{reflection_in}

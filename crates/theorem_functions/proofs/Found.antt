@@ -1,7 +1,7 @@
 -- Where `parse_rdef` finds the defaults: the places in the variables' table that it left are those of what was read.
+use Rattle.std.specs.Prelude.{Some}
 use mathlib.Core.Path.{◌≡◌, refl, sym, ap, ◌∙◌}
 use mathlib.Core.List.{List, [], ◌∷◌, map}
-use mathlib.Core.Option.{some}
 use Prim.Native.Nat.{ℕ, ◌/◌}
 use lib.Dec.{leb}
 use lib.ListN.{length, length-map}
@@ -19,7 +19,7 @@ use Rattle.tables.proofs.Options.{some_was, check_was}
 use Rattle.theorem_functions.specs.Calls.{Left}
 use Rattle.theorem_functions.specs.Noninterference.{places_found}
 
-records_back : (n : ℕ) (xs : List VariableRecord) (count : ℕ) (t : List ℕ) → count ≡ length xs → first_records variable_width variable_at t count ≡ some xs
+records_back : (n : ℕ) (xs : List VariableRecord) (count : ℕ) (t : List ℕ) → count ≡ length xs → first_records variable_width variable_at t count ≡ Some xs
     → records_from (variable_at t) 0 count ≡ xs
 unfolding first_records
 records_back n xs count t is e =

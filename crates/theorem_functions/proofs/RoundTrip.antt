@@ -1,27 +1,27 @@
 -- ROUND TRIP (specs/RoundTrip.antt), proved over the definitions that the contracts cite: by the round trip of the canonical form (crate theorem_round_trip),
 -- since tables of words hold reflections whose numbers are words, and since what reading leaves in tables is held there whole (crate readable).
+use Rattle.reflection.specs.Outcome.{Outcome}
+use Rattle.theorem_functions.proofs.Wrote.{same_length, same_parsed}
+use Rattle.reflection.specs.declared.refusal.Refusal.TheVariants.{OutputTooSmall}
+use Rattle.reflection.specs.declared.refusal.Refusal.{Refusal}
+use Rattle.std.specs.Prelude.{Ok, Err, Some}
 use mathlib.Core.Path.{◌≡◌, refl, sym, ap, subst, ◌∙◌}
 use mathlib.Core.Bool.{Bool, true, false}
 use mathlib.Core.List.{List, [], ◌∷◌}
-use mathlib.Core.Option.{some}
 use Prim.Native.Nat.{ℕ, zero, suc, ◌<◌, ◌≤◌, min}
 use native.Mathlib.Omega.{arith}
 use borrow.Author.Tests.{le-leb, lt-leb}
 use lib.ListN.{length, get_or, take, drop, replicate, length-replicate}
-use Rattle.reflection.specs.Refusals.{output_too_small}
 use Rattle.words.specs.Parts.{inside, part}
 use Rattle.words.specs.Splice.{splice}
 use Rattle.reflection.specs.declared.Text.{Text}
-use Rattle.reflection.specs.declared.Refusal.{Refusal}
 use Rattle.reflection.specs.declared.ResourceDef.{ResourceDef as Header}
 use Rattle.reflection.specs.Limits.{binding_table, buffer_table, variable_table, type_table, chunk_limit}
-use Rattle.reflection.specs.Outcome.{Outcome, ok, refused, because}
 use Rattle.reflection.specs.Reflection.{ResourceDef}
 use Rattle.tables.specs.Tables.{table, binding_rows, buffer_rows, variable_rows, type_rows, header_of}
 use Rattle.reflection.specs.Contents.{Bytes, contents}
 use Rattle.read_spec.specs.Step.{full_room}
 use Rattle.read_spec.specs.Read.{read}
-use Rattle.read.specs.declared.Parsed.TheVariants.{Read, Refused as NotRead}
 use Rattle.read.specs.Parsed.{parsed_of}
 use Rattle.readable.specs.Readable.{table_contents, readable_contents}
 use Rattle.readable.proofs.Reading.{AtMostFull, read_held}
@@ -32,9 +32,8 @@ use Rattle.write.proofs.Answers.{readable_written}
 use Rattle.theorem_round_trip.specs.RoundTrip.{Restored as FormRestored}
 use Rattle.theorem_round_trip.proofs.RoundTrip.{round_trip}
 use Rattle.theorem_functions.specs.declared.WrittenAndRead.{WrittenAndRead}
-use Rattle.theorem_functions.specs.declared.WrittenAndRead.TheVariants.{Wrote, Refused}
 use Rattle.theorem_functions.specs.declared.WrittenTwice.{WrittenTwice}
-use Rattle.theorem_functions.specs.Calls.{Lent, Left, reflection_in, form, read_back, written_and_read, WroteAndRead}
+use Rattle.theorem_functions.specs.Calls.{Lent, Left, reflection_in, form, read_back, written_and_read, WroteAndRead, wrote}
 use Rattle.theorem_functions.specs.RoundTrip.{written_again, again, SameAgain, FieldsRestored, refused_first, restored, RoundTrip}
 use Rattle.theorem_functions.proofs.Written.{WrittenForm, written_form, written_start, written_rest, written_part}
 use Rattle.theorem_functions.proofs.Noninterference.{LentWords, numbers_are_words, refused_side, written_bytes, written_answer_lem, read_outcome}
@@ -70,10 +69,10 @@ full : AtMostFull full_room
 full = record { bindings = omega arith; buffers = omega arith; variables = omega arith; types = omega arith }
 
 -- What reading left in tables of the whole room is held there.
-module _ (l : Lent) (after : Left) (answer : WrittenAndRead) (calls : WroteAndRead l after answer) where
-  pub found_held : (bytes : Bytes) → ByteList bytes → (found : ResourceDef Text Text) → read full_room bytes ≡ ok found → read_back (form l) ≡ ok found
+module _ (l : Lent) (after : Left) (answer : Outcome WrittenAndRead) (calls : WroteAndRead l after answer) where
+  pub found_held : (bytes : Bytes) → ByteList bytes → (found : ResourceDef Text Text) → read full_room bytes ≡ Ok found → read_back (form l) ≡ Ok found
       → table_contents bytes [] (header_of found) after.found_bindings after.found_buffers after.found_variables after.found_types
-      ≡ some (contents bytes [] found)
+      ≡ Some (contents bytes [] found)
   unfolding table
   found_held bytes are-bytes found reads is =
       (λ i.
@@ -85,29 +84,29 @@ module _ (l : Lent) (after : Left) (answer : WrittenAndRead) (calls : WroteAndRe
       ∙ read_held bytes [] are-bytes full_room full found reads (omega arith) binding_table buffer_table variable_table type_table
 
 -- The second writing's outcome, by the first answer.
-module _ (l : Lent) (after : Left) (answer : WrittenAndRead) (calls : WroteAndRead l after answer) (scratch room : ℕ) where
-  pub again_refused : (e : Refusal) → answer ≡ Refused e → again scratch room (form l) ≡ refused e
+module _ (l : Lent) (after : Left) (answer : Outcome WrittenAndRead) (calls : WroteAndRead l after answer) (scratch room : ℕ) where
+  pub again_refused : (e : Refusal) → answer ≡ Err e → again scratch room (form l) ≡ Err e
   unfolding again written_and_read
   again_refused e is = go (form l) (sym is ∙ calls.answer_is)
     where
-      go : (o : Outcome Bytes) → Refused e ≡ written_and_read o → again scratch room o ≡ refused e
-      go (ok bytes) same = absurd (let apart : ◌≡◌ {A = ℕ} 0 1 = cc in omega arith)
-      go (refused d) same = cc
+      go : (o : Outcome Bytes) → Err e ≡ written_and_read o → again scratch room o ≡ Err e
+      go (Ok bytes) same = absurd (let apart : ◌≡◌ {A = ℕ} 0 1 = cc in omega arith)
+      go (Err d) same = cc
 
-  pub again_unread : (n : ℕ) (e : Refusal) → answer ≡ Wrote n (NotRead e) → again scratch room (form l) ≡ refused e
+  pub again_unread : (n : ℕ) (e : Refusal) → answer ≡ wrote n (Err e) → again scratch room (form l) ≡ Err e
   unfolding again written_and_read parsed_of
   again_unread n e is = go (form l) (sym is ∙ calls.answer_is)
     where
-      by_read : (bytes : Bytes) (o : Outcome (ResourceDef Text Text)) → Wrote n (NotRead e) ≡ Wrote (length bytes) (parsed_of o)
-          → written_again scratch room bytes o ≡ refused e
-      by_read bytes (ok found) same = absurd (let apart : ◌≡◌ {A = ℕ} 0 1 = cc in omega arith)
-      by_read bytes (refused d) same = cc
+      by_read : (bytes : Bytes) (o : Outcome (ResourceDef Text Text)) → wrote n (Err e) ≡ wrote (length bytes) (parsed_of o)
+          → written_again scratch room bytes o ≡ Err e
+      by_read bytes (Ok found) same = let parsed = same_parsed same in absurd (let apart : ◌≡◌ {A = ℕ} 0 1 = cc in omega arith)
+      by_read bytes (Err d) same = let parsed = same_parsed same in cc
 
-      go : (o : Outcome Bytes) → Wrote n (NotRead e) ≡ written_and_read o → again scratch room o ≡ refused e
-      go (ok bytes) same = by_read bytes (read full_room bytes) same
-      go (refused d) same = absurd (let apart : ◌≡◌ {A = ℕ} 0 1 = cc in omega arith)
+      go : (o : Outcome Bytes) → wrote n (Err e) ≡ written_and_read o → again scratch room o ≡ Err e
+      go (Ok bytes) same = by_read bytes (read full_room bytes) same
+      go (Err d) same = absurd (let apart : ◌≡◌ {A = ℕ} 0 1 = cc in omega arith)
 
-  pub again_written : (n : ℕ) (h : Header) → answer ≡ Wrote n (Read h) → ByteList after.out
+  pub again_written : (n : ℕ) (h : Header) → answer ≡ wrote n (Ok h) → ByteList after.out
       → again scratch room (form l)
       ≡ write scratch room (table_contents (part after.out 0 n) [] h after.found_bindings after.found_buffers after.found_variables
       after.found_types)
@@ -118,27 +117,27 @@ module _ (l : Lent) (after : Left) (answer : WrittenAndRead) (calls : WroteAndRe
       second chunk header = write scratch room (table_contents chunk [] header after.found_bindings after.found_buffers after.found_variables
           after.found_types)
 
-      by_read : (bytes : Bytes) → form l ≡ ok bytes → (o : Outcome (ResourceDef Text Text)) → read full_room bytes ≡ o
-          → Wrote n (Read h) ≡ Wrote (length bytes) (parsed_of o)
+      by_read : (bytes : Bytes) → form l ≡ Ok bytes → (o : Outcome (ResourceDef Text Text)) → read full_room bytes ≡ o
+          → wrote n (Ok h) ≡ wrote (length bytes) (parsed_of o)
           → written_again scratch room bytes o ≡ second (part after.out 0 n) h
-      by_read bytes formed (ok found) reads same =
+      by_read bytes formed (Ok found) reads same =
           let fits = (written_form (length l.scratch) (length l.out) (reflection_in l) bytes formed).fits in
           let out : after.out ≡ splice l.out 0 bytes = calls.out-is ∙ ap (λ (o : Outcome Bytes). output_of o l.out) formed in
-          let n-is : n ≡ length bytes = cc in
-          let h-is : h ≡ header_of found = cc in
+          let n-is : n ≡ length bytes = same_length same in
+          let h-is : h ≡ header_of found = let parsed = same_parsed same in cc in
           let chunk : part after.out 0 n ≡ bytes = (λ i. part (out i) 0 (n-is i)) ∙ written_part bytes l.out (omega (arith, fits)) in
           let are : ByteList bytes = subst ByteList chunk (part_bytes after.out n are-bytes) in
           sym (ap (write scratch room) (found_held l after answer calls bytes are found reads (ap read_back formed ∙ reads)))
           ∙ sym (λ i. second (chunk i) (h-is i))
-      by_read bytes formed (refused d) reads same = absurd (let apart : ◌≡◌ {A = ℕ} 0 1 = cc in omega arith)
+      by_read bytes formed (Err d) reads same = let parsed = same_parsed same in absurd (let apart : ◌≡◌ {A = ℕ} 0 1 = cc in omega arith)
 
-      go : (o : Outcome Bytes) → form l ≡ o → Wrote n (Read h) ≡ written_and_read o → again scratch room o ≡ second (part after.out 0 n) h
-      go (ok bytes) formed same = by_read bytes formed (read full_room bytes) refl same
-      go (refused d) formed same = absurd (let apart : ◌≡◌ {A = ℕ} 0 1 = cc in omega arith)
+      go : (o : Outcome Bytes) → form l ≡ o → wrote n (Ok h) ≡ written_and_read o → again scratch room o ≡ second (part after.out 0 n) h
+      go (Ok bytes) formed same = by_read bytes formed (read full_room bytes) refl same
+      go (Err d) formed same = absurd (let apart : ◌≡◌ {A = ℕ} 0 1 = cc in omega arith)
 
 -- The second call of the writer: its chunk is the written part, its text of edits is empty, and its scratch is the first call's.
-pub second_call : (l : Lent) (after : Left) (first : WrittenAndRead) → WroteAndRead l after first → ByteList after.out → (n : ℕ) (h : Header)
-    → first ≡ Wrote n (Read h)
+pub second_call : (l : Lent) (after : Left) (first : Outcome WrittenAndRead) → WroteAndRead l after first → ByteList after.out → (n : ℕ) (h : Header)
+    → first ≡ wrote n (Ok h)
     → (room : ℕ) {chunk edits : Bytes} → chunk ≡ part after.out 0 n → edits ≡ part after.out 0 0
     → again (length l.scratch) room (form l)
     ≡ write (length after.scratch) room (table_contents chunk edits h after.found_bindings after.found_buffers after.found_variables
@@ -153,7 +152,7 @@ second_call l after first calls are-bytes n h is room chunk-is edits-is =
     after.found_types))
 
 -- The scratch that the second call zeroes is as long as the first call's.
-pub rescratched : (l : Lent) (after : Left) (first : WrittenAndRead) → WroteAndRead l after first → (scratch : List ℕ)
+pub rescratched : (l : Lent) (after : Left) (first : Outcome WrittenAndRead) → WroteAndRead l after first → (scratch : List ℕ)
     → scratch ≡ replicate (length after.scratch) 0
     → WroteAndRead l
     (record {
@@ -177,11 +176,11 @@ rescratched l after first calls scratch is = record {
 
 -- What fits, and what does not.
 module _ (room : ℕ) (bytes : Bytes) (short : length bytes ≤ chunk_limit) where
-  fits : length bytes ≤ room → fitting room (ok bytes) ≡ ok bytes
+  fits : length bytes ≤ room → fitting room (Ok bytes) ≡ Ok bytes
   unfolding fitting
   fits enough = rw (le-leb (length bytes) (min room chunk_limit) (omega arith))
 
-  too_long : room < length bytes → fitting room (ok bytes) ≡ refused (because output_too_small)
+  too_long : room < length bytes → fitting room (Ok bytes) ≡ Err OutputTooSmall
   unfolding fitting
   too_long less = rw (lt-leb (length bytes) (min room chunk_limit) (omega arith))
 
@@ -199,14 +198,14 @@ module _
   abbrev twice : Outcome Bytes
   twice = again (length l.scratch) (length second) (form l)
 
-  first_refused : (e : Refusal) → form l ≡ refused e → FieldsRestored l after second second-after answer
+  first_refused : (e : Refusal) → form l ≡ Err e → FieldsRestored l after second second-after answer
   unfolding again written_of output_of
   first_refused e is =
       let (answered, side) = refused_side l after answer.first calls e is in
-      let second_is : twice ≡ refused e = ap (again (length l.scratch) (length second)) is in
+      let second_is : twice ≡ Err e = ap (again (length l.scratch) (length second)) is in
       refused_first e answered (answer_again ∙ ap written_of second_is) side.out_zero (out_again ∙ ap (λ (o : Outcome Bytes). output_of o second) second_is)
 
-  module _ (r : ResourceDef Bytes Bytes) (is_held : reflection_in l ≡ some r) (is : form l ≡ ok (canonical r))
+  module _ (r : ResourceDef Bytes Bytes) (is_held : reflection_in l ≡ Some r) (is : form l ≡ Ok (canonical r))
       (wrote : WrittenForm (length l.scratch) (length l.out) (reflection_in l) (canonical r)) (readable : readable_contents r ≡ true) where
     short : length (canonical r) ≤ chunk_limit
     short = omega (arith, wrote.fits)
@@ -225,16 +224,16 @@ module _
         ∙ found_held l after answer.first calls (canonical r) (subst ByteList taken (take_bytes (length (canonical r)) after.out out-bytes))
         back.read_back back.reads
         (read_outcome l after answer.first calls (canonical r) is back.read_back back.reads)
-        ∙ ap some back.restored
+        ∙ ap Some back.restored
         ∙ sym is_held
 
     -- What was read is written as what was lent.
-    twice_is : twice ≡ fitting (length second) (ok (canonical r))
+    twice_is : twice ≡ fitting (length second) (Ok (canonical r))
     unfolding again
     twice_is =
         ap (again (length l.scratch) (length second)) is
         ∙ ap (written_again (length l.scratch) (length second) (canonical r)) back.reads
-        ∙ ap (λ (q : ResourceDef Bytes Bytes). write (length l.scratch) (length second) (some q)) back.restored
+        ∙ ap (λ (q : ResourceDef Bytes Bytes). write (length l.scratch) (length second) (Some q)) back.restored
         ∙ readable_written (length l.scratch) (length second) r readable wrote.enough
 
     same_again : SameAgain (length (canonical r)) after.out second second-after answer
@@ -263,16 +262,16 @@ module _
   round_trip_demand = go (form l) refl
     where
       go : (o : Outcome Bytes) → form l ≡ o → FieldsRestored l after second second-after answer
-      go (ok bytes) is =
+      go (Ok bytes) is =
           let wrote = written_form (length l.scratch) (length l.out) (reflection_in l) bytes is in
           let bytes-are = sym wrote.is_form in
-          written_restored wrote.reflection wrote.is_held (is ∙ ap ok bytes-are)
+          written_restored wrote.reflection wrote.is_held (is ∙ ap Ok bytes-are)
           (subst (WrittenForm (length l.scratch) (length l.out) (reflection_in l)) bytes-are wrote) wrote.is_readable
-      go (refused e) is = first_refused e is
+      go (Err e) is = first_refused e is
 
 -- So of an answer by the outcome of the second writing.
 pub round_trip_by : (l : Lent) (after : Left) (second second-after : Bytes) (answer : WrittenTwice) → LentWords l → ByteList after.out
-    → (first : WrittenAndRead)
+    → (first : Outcome WrittenAndRead)
     → WroteAndRead l after first → first ≡ answer.first → (o : Outcome Bytes) → again (length l.scratch) (length second) (form l) ≡ o
     → answer.again ≡ written_of o
     → second-after ≡ output_of o second → RoundTrip l after second second-after answer

@@ -1,22 +1,21 @@
 -- One call of the canonical writer, and one of `parse_rdef` on what it wrote: what the calls were lent, what they left, and what they answered, by the
 -- definitions that the contracts of `write_rdef_canonical` (crates/write/src/lib.rt) and `parse_rdef` (crates/read/src/lib.rt) cite.
-use Rattle.std.specs.Prelude.{◌≡◌, List, ℕ, length, replicate}
-use Rattle.std.proofs.Math.Option.{Option}
+use Rattle.reflection.specs.Outcome.{Outcome}
+use Rattle.std.specs.Prelude.{◌≡◌, List, ℕ, length, replicate, Option, Ok, Err}
 use Rattle.reflection.specs.declared.Text.{Text}
 use Rattle.reflection.specs.declared.ResourceDef.{ResourceDef as Header}
 use Rattle.reflection.specs.Limits.{binding_table, buffer_table, variable_table, type_table}
-use Rattle.reflection.specs.Outcome.{Outcome, ok, refused}
 use Rattle.reflection.specs.Reflection.{ResourceDef}
 use Rattle.tables.specs.Tables.{binding_rows, buffer_rows, variable_rows, type_rows, table}
 use Rattle.reflection.specs.Contents.{Bytes}
 use Rattle.read_spec.specs.Step.{full_room}
 use Rattle.read_spec.specs.Read.{read}
+use Rattle.read.specs.Answer.{Parsed}
 use Rattle.read.specs.Parsed.{parsed_of}
 use Rattle.readable.specs.Readable.{table_contents}
 use Rattle.text_output.specs.Written.{output_of}
 use Rattle.write_spec.specs.Outcome.{write}
 use Rattle.theorem_functions.specs.declared.WrittenAndRead.{WrittenAndRead}
-use Rattle.theorem_functions.specs.declared.WrittenAndRead.TheVariants.{Wrote, Refused}
 
 -- What is lent: the chunk and the text of edits, the header, the four tables, and scratch and output with their old contents.
 pub record Lent : Type 0 where
@@ -67,16 +66,20 @@ form l = write (length l.scratch) (length l.out) (reflection_in l)
 
 -- What reading the written bytes with the whole room comes to.
 unfoldable pub read_back : Outcome Bytes → Outcome (ResourceDef Text Text)
-read_back (ok bytes) = read full_room bytes
-read_back (refused e) = refused e
+read_back (Ok bytes) = read full_room bytes
+read_back (Err e) = Err e
+
+-- So many bytes were written, and this is what they read as.
+abbrev pub wrote : ℕ → Parsed → Outcome WrittenAndRead
+wrote n parsed = Ok (record { length = n; parsed = parsed })
 
 -- The answer's two cases.
-unfoldable pub written_and_read : Outcome Bytes → WrittenAndRead
-written_and_read (ok bytes) = Wrote (length bytes) (parsed_of (read full_room bytes))
-written_and_read (refused e) = Refused e
+unfoldable pub written_and_read : Outcome Bytes → Outcome WrittenAndRead
+written_and_read (Ok bytes) = wrote (length bytes) (parsed_of (read full_room bytes))
+written_and_read (Err e) = Err e
 
 -- What `write_and_read` answers and leaves: every word and every byte.
-pub record WroteAndRead (l : Lent) (after : Left) (answer : WrittenAndRead) : Type 0 where
+pub record WroteAndRead (l : Lent) (after : Left) (answer : Outcome WrittenAndRead) : Type 0 where
   pub answer_is : answer ≡ written_and_read (form l)
   pub out-is : after.out ≡ output_of (form l) l.out
   pub scratch_is : after.scratch ≡ replicate (length l.scratch) 0

@@ -13,10 +13,9 @@
 -- differ only in the bytes of their defaults, and `Covered`, a byte's index lies in one of some texts
 -- (crates/theorem_noninterference/specs/Noninterference.antt); `variable_at`, a variable's record in a table (crates/tables/specs/Records.antt); `text_bytes`,
 -- the bytes of a text (crates/reflection/specs/Texts.antt); what was lent and what is left: Calls.antt. proofs/Noninterference.antt proves it.
-use Rattle.std.specs.Prelude.{◌≡◌, List, [], map, ℕ, ◌<◌, ◌≤◌, length, get_or, take, drop, replicate}
-use Rattle.std.proofs.Math.Option.{Option, none, some}
+use Rattle.reflection.specs.declared.refusal.Refusal.{Refusal}
+use Rattle.std.specs.Prelude.{◌≡◌, List, [], map, ℕ, ◌<◌, ◌≤◌, length, get_or, take, drop, replicate, Option, None, Some, Ok, Err}
 use Rattle.reflection.specs.declared.Text.{Text}
-use Rattle.reflection.specs.declared.Refusal.{Refusal}
 use Rattle.reflection.specs.declared.ResourceDef.{ResourceDef as Header}
 use Rattle.reflection.specs.declared.CBufferVariable.{CBufferVariable as VariableRecord}
 use Rattle.reflection.specs.Reflection.{ResourceDef}
@@ -24,18 +23,16 @@ use Rattle.tables.specs.Records.{variable_at}
 use Rattle.tables.specs.Decode.{records_from}
 use Rattle.reflection.specs.Texts.{text_bytes}
 use Rattle.reflection.specs.Contents.{Bytes, defaults_of}
-use Rattle.read.specs.declared.Parsed.TheVariants.{Read}
 use Rattle.theorem_noninterference.specs.Noninterference.{SameButDefaults, Covered}
-use Rattle.theorem_functions.specs.declared.WrittenAndRead.TheVariants.{Wrote, Refused}
 use Rattle.theorem_functions.specs.declared.WrittenPair.{WrittenPair}
-use Rattle.theorem_functions.specs.Calls.{Lent, Left, reflection_in, WroteAndRead}
+use Rattle.theorem_functions.specs.Calls.{Lent, Left, reflection_in, WroteAndRead, wrote}
 
 -- What tables hold differs only in the bytes of the defaults; where neither side's tables hold a reflection, that counts as sharing.
 abbrev pub SharedButDefaults : Option (ResourceDef Bytes Bytes) → Option (ResourceDef Bytes Bytes) → Type 0
-SharedButDefaults none none = Unit {0}
-SharedButDefaults (some a) (some b) = SameButDefaults a b
-SharedButDefaults none (some b) = ⊥
-SharedButDefaults (some a) none = ⊥
+SharedButDefaults None None = Unit {0}
+SharedButDefaults (Some a) (Some b) = SameButDefaults a b
+SharedButDefaults None (Some b) = ⊥
+SharedButDefaults (Some a) None = ⊥
 
 -- What A and B are to have in common.
 pub record Shared (a b : Lent) : Type 0 where
@@ -49,8 +46,8 @@ places_found count after = map (λ (v : VariableRecord). v.default_value) (recor
 
 -- The defaults of what a side's tables hold.
 abbrev pub defaults_held : Option (ResourceDef Bytes Bytes) → List Bytes
-defaults_held none = []
-defaults_held (some r) = defaults_of r
+defaults_held None = []
+defaults_held (Some r) = defaults_of r
 
 -- A side that was refused: zeros.
 pub record RefusedSide (l : Lent) (after : Left) : Type 0 where
@@ -73,9 +70,9 @@ pub record SidesAlike (a b : Lent) (after-a after-b : Left) (n count-a count-b :
 
 pub data SameAnswers (a b : Lent) (after-a after-b : Left) (answer : WrittenPair) : Type 0 where
   both_refused :
-      (e : Refusal) → answer.a ≡ Refused e → answer.b ≡ Refused e → RefusedSide a after-a → RefusedSide b after-b → SameAnswers a b after-a after-b answer
+      (e : Refusal) → answer.a ≡ Err e → answer.b ≡ Err e → RefusedSide a after-a → RefusedSide b after-b → SameAnswers a b after-a after-b answer
   both_written :
-      (n : ℕ) (found-a found-b : Header) → answer.a ≡ Wrote n (Read found-a) → answer.b ≡ Wrote n (Read found-b)
+      (n : ℕ) (found-a found-b : Header) → answer.a ≡ wrote n (Ok found-a) → answer.b ≡ wrote n (Ok found-b)
       → SidesAlike a b after-a after-b n found-a.variable_count found-b.variable_count → SameAnswers a b after-a after-b answer
 
 -- What `write_pair` answers and leaves: of each side what `write_and_read` does, and demand 3.

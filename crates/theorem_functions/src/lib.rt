@@ -5,29 +5,27 @@ ghost use Rattle.theorem_functions.specs.Calls.{lent, left, WroteAndRead};
 ghost use Rattle.theorem_functions.specs.Noninterference.{Noninterference};
 ghost use Rattle.theorem_functions.specs.RoundTrip.{RoundTrip};
 
-use read::Parsed;
 use reflection::{BINDING_TABLE, BUFFER_TABLE, Refusal, ResourceDef, TYPE_TABLE, VARIABLE_TABLE};
-use text_output::Written;
 
-// What came of a reflection that was written and read again: how many bytes were written and what these read as, or why nothing was written.
+// What came of a reflection that was written and read again: how many bytes were written, and what these read as.
 #[derive(Clone, Copy)]
-pub enum WrittenAndRead {
-    Wrote(usize, Parsed),
-    Refused(Refusal),
+pub struct WrittenAndRead {
+    pub length: usize,
+    pub parsed: Result<ResourceDef, Refusal>,
 }
 
 // The same of two reflections.
 #[derive(Clone, Copy)]
 pub struct WrittenPair {
-    pub a: WrittenAndRead,
-    pub b: WrittenAndRead,
+    pub a: Result<WrittenAndRead, Refusal>,
+    pub b: Result<WrittenAndRead, Refusal>,
 }
 
 // The same of one reflection, and what came of writing again what was read.
 #[derive(Clone, Copy)]
 pub struct WrittenTwice {
-    pub first: WrittenAndRead,
-    pub again: Written,
+    pub first: Result<WrittenAndRead, Refusal>,
+    pub again: Result<usize, Refusal>,
 }
 
 // Writes the canonical form and reads the written bytes into tables of the whole room. A refusal leaves zeros there too.
@@ -45,7 +43,7 @@ pub fn write_and_read<'a>(
     found_buffers: &mut [u32; BUFFER_TABLE],
     found_variables: &mut [u32; VARIABLE_TABLE],
     found_types: &mut [u32; TYPE_TABLE],
-) -> WrittenAndRead
+) -> Result<WrittenAndRead, Refusal>
     ensures { WroteAndRead
         (lent chunk.now edits.now def bindings.now buffers.now variables.now types.now
         scratch.old out.old)
@@ -57,14 +55,14 @@ pub fn write_and_read<'a>(
         chunk, edits, def, bindings, buffers, variables, types, scratch, out,
     );
     match written {
-        Written::Refused(refusal) => {
+        Err(refusal) => {
             words::clear(found_bindings);
             words::clear(found_buffers);
             words::clear(found_variables);
             words::clear(found_types);
-            WrittenAndRead::Refused(refusal)
+            Err(refusal)
         }
-        Written::Wrote(n) => {
+        Ok(n) => {
             let parsed = read::parse_rdef(
                 words::part(out, 0, n),
                 found_bindings,
@@ -72,7 +70,7 @@ pub fn write_and_read<'a>(
                 found_variables,
                 found_types,
             );
-            WrittenAndRead::Wrote(n, parsed)
+            Ok(WrittenAndRead { length: n, parsed })
         }
     }
 }
@@ -149,7 +147,7 @@ pub fn write_pair<'a, 'b>(
         found_variables_b,
         found_types_b,
     );
-    WrittenPair { a: a, b: b }
+    WrittenPair { a, b }
 }
 
 // Demand 2: a reflection is written and read, and what was read is written again (specs/RoundTrip.antt).
@@ -192,18 +190,18 @@ pub fn write_read_write<'a>(
         found_types,
     );
     match first {
-        WrittenAndRead::Refused(refusal) => WrittenTwice {
-            first: first,
-            again: text_output::refuse(second, refusal.number),
+        Err(refusal) => WrittenTwice {
+            first,
+            again: text_output::refuse(second, refusal),
         },
-        WrittenAndRead::Wrote(n, parsed) => match parsed {
-            Parsed::Refused(refusal) => WrittenTwice {
-                first: first,
-                again: text_output::refuse(second, refusal.number),
+        Ok(written) => match written.parsed {
+            Err(unread) => WrittenTwice {
+                first,
+                again: text_output::refuse(second, unread),
             },
-            Parsed::Read(found) => {
+            Ok(found) => {
                 let again = write::write_rdef_canonical(
-                    words::part(out, 0, n),
+                    words::part(out, 0, written.length),
                     words::part(out, 0, 0),
                     found,
                     found_bindings,
@@ -213,10 +211,7 @@ pub fn write_read_write<'a>(
                     scratch,
                     second,
                 );
-                WrittenTwice {
-                    first: first,
-                    again: again,
-                }
+                WrittenTwice { first, again }
             }
         },
     }

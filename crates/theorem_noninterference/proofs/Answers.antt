@@ -1,15 +1,15 @@
 -- Two reflections get the same refusal or are both written: refusals hang on the scratch (15), on whether the reflection is readable (16) and on the length
 -- (17), and the two agree in these.
+use Rattle.reflection.specs.Outcome.{Outcome}
+use Rattle.reflection.specs.declared.refusal.Refusal.TheVariants.{NoRoom, NotReadable, OutputTooSmall}
+use Rattle.std.specs.Prelude.{Ok, Err, Some}
 use mathlib.Core.Path.{◌≡◌, refl, ap, sym, ◌∙◌, subst}
 use mathlib.Core.Bool.{Bool, true, false, cond}
-use mathlib.Core.Option.{some}
 use Prim.Native.Nat.{ℕ, min, ◌≤◌}
 use native.Mathlib.Omega.{arith}
 use lib.Dec.{T, leb, leb→le}
 use lib.ListN.{length}
 use Rattle.reflection.specs.Limits.{chunk_limit}
-use Rattle.reflection.specs.Refusals.{no_room, not_readable, output_too_small}
-use Rattle.reflection.specs.Outcome.{Outcome, ok, refused, because}
 use Rattle.reflection.specs.Reflection.{ResourceDef}
 use Rattle.reflection.specs.Contents.{Bytes}
 use Rattle.readable.specs.Readable.{readable_contents}
@@ -21,22 +21,22 @@ use Rattle.theorem_noninterference.proofs.SameButDefaults.{Common}
 
 -- What is written, by the three tests: enough scratch, readable, room in the output.
 abbrev answer : Bool → Bool → Bool → Bytes → Outcome Bytes
-answer false readable fits bytes = refused (because no_room)
-answer true false fits bytes = refused (because not_readable)
-answer true true false bytes = refused (because output_too_small)
-answer true true true bytes = ok bytes
+answer false readable fits bytes = Err NoRoom
+answer true false fits bytes = Err NotReadable
+answer true true false bytes = Err OutputTooSmall
+answer true true true bytes = Ok bytes
 
-write_by_tests : (scratch room : ℕ) (a : ResourceDef Bytes Bytes) → write scratch room (some a)
+write_by_tests : (scratch room : ℕ) (a : ResourceDef Bytes Bytes) → write scratch room (Some a)
     ≡ answer (leb scratch_size scratch) (readable_contents a) (fits_in room (length (canonical a))) (canonical a)
 unfolding write canonical_or16 fitting
 write_by_tests scratch room a = go (leb scratch_size scratch) (readable_contents a)
   where
-    fit : (fits : Bool) → cond fits (ok (canonical a)) (refused (because output_too_small)) ≡ answer true true fits (canonical a)
+    fit : (fits : Bool) → cond fits (Ok (canonical a)) (Err OutputTooSmall) ≡ answer true true fits (canonical a)
     fit true = refl
     fit false = refl
 
     go : (enough readable : Bool)
-        → cond enough (fitting room (cond readable (ok (canonical a)) (refused (because not_readable)))) (refused (because no_room))
+        → cond enough (fitting room (cond readable (Ok (canonical a)) (Err NotReadable))) (Err NoRoom)
         ≡ answer enough readable (fits_in room (length (canonical a))) (canonical a)
     go false readable = refl
     go true false = refl
@@ -52,10 +52,10 @@ module _ (scratch room : ℕ) (a b : ResourceDef Bytes Bytes) (common : Common a
     readable_is : readable_contents a ≡ readable
     fits_is : fits a ≡ fit
 
-  first_answer : {enough readable fit : Bool} → Tests enough readable fit → write scratch room (some a) ≡ answer enough readable fit (canonical a)
+  first_answer : {enough readable fit : Bool} → Tests enough readable fit → write scratch room (Some a) ≡ answer enough readable fit (canonical a)
   first_answer t = write_by_tests scratch room a ∙ (λ i. answer (t.scratch_is i) (t.readable_is i) (t.fits_is i) (canonical a))
 
-  second_answer : {enough readable fit : Bool} → Tests enough readable fit → write scratch room (some b) ≡ answer enough readable fit (canonical b)
+  second_answer : {enough readable fit : Bool} → Tests enough readable fit → write scratch room (Some b) ≡ answer enough readable fit (canonical b)
   second_answer t =
       let readable = sym common.same_readable ∙ t.readable_is in
       let fit = ap (fits_in room) (sym common.same_length) ∙ t.fits_is in
@@ -63,9 +63,9 @@ module _ (scratch room : ℕ) (a b : ResourceDef Bytes Bytes) (common : Common a
 
   both_answers : (enough readable fit : Bool) → Tests enough readable fit
       → (readable_contents a ≡ true → length (canonical a) ≤ chunk_limit → Alike a b) → Indistinguishable scratch room a b
-  both_answers false readable fit t same = both_refused (because no_room) (first_answer t) (second_answer t)
-  both_answers true false fit t same = both_refused (because not_readable) (first_answer t) (second_answer t)
-  both_answers true true false t same = both_refused (because output_too_small) (first_answer t) (second_answer t)
+  both_answers false readable fit t same = both_refused NoRoom (first_answer t) (second_answer t)
+  both_answers true false fit t same = both_refused NotReadable (first_answer t) (second_answer t)
+  both_answers true true false t same = both_refused OutputTooSmall (first_answer t) (second_answer t)
   both_answers true true true t same =
       let short : length (canonical a) ≤ min room chunk_limit = leb→le _ _ (subst T (sym t.fits_is) tt) in
       both_written (first_answer t) (second_answer t) (same t.readable_is (omega arith))

@@ -1,8 +1,8 @@
 -- Two reflections as the statement speaks of them: floats `a` and `b` with unequal defaults of four bytes, other bytes in each reflection. So nothing that the
 -- statement asks is empty; and these two are written, into 148 bytes that differ.
+use Rattle.std.specs.Prelude.{Ok, Some}
 use mathlib.Core.Path.{◌≡◌, refl}
 use mathlib.Core.List.{[], ◌∷◌}
-use mathlib.Core.Option.{some}
 use Prim.Native.Nat.{ℕ, zero, suc}
 use native.Mathlib.Omega.{arith}
 use lib.ListN.{length, get_or}
@@ -10,7 +10,6 @@ use Rattle.words.specs.Words
 use Rattle.text.specs.Same as TextSame
 use Rattle.text.specs.Utf8
 use Rattle.text.specs.Strings
-use Rattle.reflection.specs.Outcome.{ok}
 use Rattle.reflection.specs.Rd11
 use Rattle.reflection.specs.Reflection
 use Rattle.reflection.specs.Reflection.{ResourceDef}
@@ -84,7 +83,7 @@ unfolding computing
 numbers_are_words = record { header = omega arith; bindings = tt; buffers = (omega arith, ((omega arith, (omega arith, tt)), tt)) }
 
 -- Both are written where there is room, and the first byte of the first default differs.
-pub both_written : (write Outcome.scratch_size 148 (some one) ≡ ok (canonical one)) × (write Outcome.scratch_size 148 (some other) ≡ ok (canonical other))
+pub both_written : (write Outcome.scratch_size 148 (Some one) ≡ Ok (canonical one)) × (write Outcome.scratch_size 148 (Some other) ≡ Ok (canonical other))
 unfolding computing
 both_written = (refl, refl)
 

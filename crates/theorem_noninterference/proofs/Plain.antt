@@ -1,13 +1,14 @@
 -- Steps that write no byte of a default: all but the step for a default itself. Names, types and records are cells of other kinds.
+use Rattle.std.specs.Prelude.{Option, None, Some}
 use mathlib.Core.List.{List, [], ◌∷◌, ◌++◌, map}
 use mathlib.Core.Bool.{Bool, true, false, ◌&&◌}
-use mathlib.Core.Option.{Option, none, some}
 use Prim.Native.Nat.{ℕ, zero, suc, ◌+◌, ◌*◌}
 use lib.Dec.{eqb}
 use lib.ListN.{replicate}
 use Rattle.words.specs.Words.{word_bytes}
 use Rattle.reflection.specs.Reflection.{TypeNumbers, TypeDesc, type_desc, Members, no_member, member, member_count}
-use Rattle.write_spec.specs.Step.{Cell, byte, name_byte, default_byte, TextFacts, Pools, WriteStep, ◌>>=◌, return, append, add_to_pool, add_to_pool_if, pad}
+use Rattle.write_spec.specs.Step.{Cell, byte, name_byte, default_byte, TextFacts, Pools, WriteStep, ◌>>=◌, return, append, add_to_pool}
+use Rattle.write_spec.specs.Step.{add_to_pool_if, pad}
 use Rattle.write_spec.specs.Step.{padding_at, word_cells, reserve, found, interned, unless_empty, in_member_pool, enter_member, add_type, cells_of}
 use Rattle.write_spec.specs.Records.{type_words_in_chunk}
 use Rattle.write_spec.specs.Layout.{name_cells, place_outer_name, place_inner_name, write_type, place_type, place_members, place_outer_names}
@@ -91,8 +92,8 @@ module _ {N D : Type 0} where
   plain_interned true look {m} h = record { plain = λ at ps. go (look ps) at ps }
     where
       go : (l : Option ℕ) (at : ℕ) (ps : Pools N D) → Plain (found l m at ps).cells
-      go none at ps = h.plain at ps
-      go (some o) at ps = tt
+      go None at ps = h.plain at ps
+      go (Some o) at ps = tt
   plain_interned false look h = record { plain = h.plain }
 
   plain_unless_empty : (n : ℕ) {m : WriteStep N D ℕ} → PlainStep m → PlainStep (unless_empty n m)

@@ -7,7 +7,8 @@ use Prim.Native.Nat.{ℕ, ◌+◌}
 use lib.Dec.{eqb, leb}
 use lib.ListN.{length, length-map}
 use Rattle.reflection.specs.Limits.{binding_room, buffer_room, variable_room, type_room}
-use Rattle.reflection.specs.Reflection.{CBufferVariable, CBufferDef, ResourceDef, map_type, map_binding, map_variable, map_buffer, map_def, is_sm5, is_wide}
+use Rattle.reflection.specs.Reflection.{CBufferVariable, CBufferDef, ResourceDef, map_type, map_binding, map_variable, map_buffer, map_def, is_sm5}
+use Rattle.reflection.specs.Reflection.{is_wide}
 use Rattle.tables.specs.Nodes.{nodes_of, type_levels}
 use Rattle.reflection.specs.Reflection.{all_variables}
 use Rattle.reflection.specs.Contents.{Bytes, type_names, variable_names, outer_names, inner_names, defaults_of}

@@ -1,10 +1,10 @@
 -- Every cell of the layout that holds a byte of a default lies in the place of a default, as the layout's result has it (`default_places`): such cells are
 -- written by the step for a default alone, and the offset that this step hands back is where they begin.
+use Rattle.std.specs.Prelude.{Option, None, Some}
 use mathlib.Core.Path.{◌≡◌, refl, ap, sym, ◌∙◌, subst}
 use mathlib.Core.Logic.{inl, inr}
 use mathlib.Core.List.{List, [], ◌∷◌, ◌++◌, map, map-append, append-nil}
 use mathlib.Core.Bool.{Bool, true}
-use mathlib.Core.Option.{Option, none, some}
 use Prim.Native.Nat.{ℕ, zero, suc, ◌+◌, ◌*◌, ◌≤◌}
 use native.Mathlib.Omega.{arith}
 use native.Mathlib.Nat.{add-zero}
@@ -15,7 +15,8 @@ use Rattle.reflection.specs.Reflection.{CBufferVariable, CBufferDef, ResourceDef
 use Rattle.reflection.specs.Texts.{in_chunk}
 use Rattle.reflection.specs.Reflection.{all_variables}
 use Rattle.reflection.specs.Contents.{defaults_of}
-use Rattle.write_spec.specs.Step.{Cell, default_byte, TextFacts, Pools, pools, WriteStep, ◌>>=◌, return, append, add_to_pool, pad, word_cells, reserve}
+use Rattle.write_spec.specs.Step.{Cell, default_byte, TextFacts, Pools, pools, WriteStep, ◌>>=◌, return, append, add_to_pool, pad, word_cells}
+use Rattle.write_spec.specs.Step.{reserve}
 use Rattle.write_spec.specs.Step.{found, interned, unless_empty, add_default, cells_of}
 use Rattle.write_spec.specs.Records.{VariableOffsets, variable_words_in_chunk, variable_size, Section, buffer_words_in_chunk, buffer_size}
 use Rattle.write_spec.specs.Records.{binding_words_in_chunk, binding_size, header_words_in_chunk, header_word_count, BodyOffsets, rows}
@@ -124,12 +125,12 @@ module _ {N D : Type 0} where
   once_in_places P places look m e h = record { within = λ at ps. in_one (look ps) at ps; kept = λ at ps. none_lost (look ps) at ps }
     where
       in_one : (l : Option ℕ) (at : ℕ) (ps : Pools N D) → Within at (found l m at ps).cells (places (found l m at ps).result)
-      in_one none at ps = h.within at ps
-      in_one (some o) at ps = tt
+      in_one None at ps = h.within at ps
+      in_one (Some o) at ps = tt
 
       none_lost : (l : Option ℕ) (at : ℕ) (ps : Pools N D) (p : ℕ) → Covered p P → Covered p (places (found l m at ps).result)
-      none_lost none at ps = h.kept at ps
-      none_lost (some o) at ps = e o
+      none_lost None at ps = h.kept at ps
+      none_lost (Some o) at ps = e o
 
   append_in_places : (P : List Text) (n : ℕ) (cell : ℕ → Cell N D) → InPlaces (append (cells_of n cell)) P (λ o. in_chunk o n ∷ P)
   unfolding append

@@ -6,12 +6,10 @@
 --
 -- Definitions that this rests on: a reflection (`ResourceDef`, crate reflection), `read` (crate read_spec), `write`, the canonical writer's whole answer
 -- (crate write_spec), which the contract of `write_rdef_canonical` cites.
-use Rattle.std.specs.Prelude.{◌≡◌, ◌⊎◌, List, [], ◌∷◌, map, ℕ, ◌+◌, ◌<◌, ◌≤◌, length, get_or}
-use Rattle.std.proofs.Math.Option.{some}
+use Rattle.reflection.specs.declared.refusal.Refusal.{Refusal}
+use Rattle.std.specs.Prelude.{◌≡◌, ◌⊎◌, List, [], ◌∷◌, map, ℕ, ◌+◌, ◌<◌, ◌≤◌, length, get_or, Some, Ok, Err}
 use Rattle.text.specs.Same.{same_bytes}
 use Rattle.reflection.specs.declared.Text.{Text}
-use Rattle.reflection.specs.declared.Refusal.{Refusal}
-use Rattle.reflection.specs.Outcome.{ok, refused}
 use Rattle.reflection.specs.Reflection.{ResourceDef, map_def}
 use Rattle.reflection.specs.Texts.{text_bytes}
 use Rattle.reflection.specs.Contents.{Bytes, defaults_of}
@@ -42,7 +40,7 @@ Covered p (t ∷ ts) = ((t.place ≤ p) × (p < t.place + t.length)) ⊎ Covered
 -- What reading finds in one reflection's written bytes: a reflection whose defaults lie at these places, with exactly that reflection's own bytes there.
 pub record DefaultsAt (a : ResourceDef Bytes Bytes) (places : List Text) : Type 0 where
   pub found : ResourceDef Text Text
-  pub reads : read full_room (canonical a) ≡ ok found
+  pub reads : read full_room (canonical a) ≡ Ok found
   pub at_places : defaults_of found ≡ places
   pub own_bytes : map (text_bytes (canonical a) []) places ≡ defaults_of a
 
@@ -56,6 +54,6 @@ pub record Alike (a b : ResourceDef Bytes Bytes) : Type 0 where
 
 -- With so much scratch and output: the same refusal, or both written and alike.
 pub data Indistinguishable (scratch room : ℕ) (a b : ResourceDef Bytes Bytes) : Type 0 where
-  both_refused : (e : Refusal) → write scratch room (some a) ≡ refused e → write scratch room (some b) ≡ refused e → Indistinguishable scratch room a b
-  both_written : write scratch room (some a) ≡ ok (canonical a) → write scratch room (some b) ≡ ok (canonical b) → Alike a b
+  both_refused : (e : Refusal) → write scratch room (Some a) ≡ Err e → write scratch room (Some b) ≡ Err e → Indistinguishable scratch room a b
+  both_written : write scratch room (Some a) ≡ Ok (canonical a) → write scratch room (Some b) ≡ Ok (canonical b) → Alike a b
       → Indistinguishable scratch room a b

@@ -19,7 +19,8 @@ use Rattle.tables.specs.Nodes.{type_levels}
 use Rattle.tables.proofs.Levels.{Fits, FitsAll}
 use Rattle.reflection.specs.Reflection.{all_variables}
 use Rattle.reflection.specs.Contents.{Bytes, type_names, member_names, variable_names, outer_names, inner_names}
-use Rattle.readable.specs.Readable.{every, name_readable, default_readable, zero_unless, version_readable, binding_readable, numbers_readable, type_readable}
+use Rattle.readable.specs.Readable.{every, name_readable, default_readable, zero_unless, version_readable, binding_readable, numbers_readable}
+use Rattle.readable.specs.Readable.{type_readable}
 use Rattle.readable.specs.Readable.{members_readable, variable_readable, room_kept, readable_contents}
 use Rattle.theorem_round_trip.specs.RoundTrip.{type_numbers, member_numbers, variable_numbers, binding_numbers, buffer_numbers, EachIsWord, AllWords}
 use Rattle.theorem_round_trip.specs.RoundTrip.{BuffersWords, NumbersAreWords}

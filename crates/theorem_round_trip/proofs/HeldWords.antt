@@ -1,8 +1,8 @@
 -- Tables of words hold reflections whose numbers are words: every number of what they decode to is a word of a record, and the contents have the same numbers.
+use Rattle.std.specs.Prelude.{Option, Some}
 use mathlib.Core.Path.{◌≡◌, refl, sym, ap, subst}
 use mathlib.Core.Bool.{Bool, true, false, ◌&&◌}
 use mathlib.Core.List.{List, [], ◌∷◌, ◌++◌, map}
-use mathlib.Core.Option.{Option, some}
 use Prim.Native.Nat.{ℕ, zero, suc, ◌+◌, ◌*◌, ◌/◌, ◌<◌}
 use native.Mathlib.Omega.{arith}
 use lib.Dec.{leb, eqb}
@@ -14,10 +14,13 @@ use Rattle.reflection.specs.declared.ResourceBinding.{ResourceBinding as Binding
 use Rattle.reflection.specs.declared.CBufferDef.{CBufferDef as BufferRecord}
 use Rattle.reflection.specs.declared.CBufferVariable.{CBufferVariable as VariableRecord}
 use Rattle.reflection.specs.declared.TypeDesc.{TypeDesc as TypeRecord}
-use Rattle.reflection.specs.Reflection.{TypeDesc, type_desc, Members, no_member, member, map_type, map_members, CBufferVariable, map_variable, CBufferDef}
-use Rattle.reflection.specs.Reflection.{map_buffer, ResourceBinding, map_binding, ResourceDef, map_def, major_of, identifier_of, stride_of, slots_of, no_rd11, rd11}
+use Rattle.reflection.specs.Reflection.{TypeDesc, type_desc, Members, no_member, member, map_type, map_members, CBufferVariable, map_variable}
+use Rattle.reflection.specs.Reflection.{CBufferDef}
+use Rattle.reflection.specs.Reflection.{map_buffer, ResourceBinding, map_binding, ResourceDef, map_def, major_of, identifier_of, stride_of, slots_of}
+use Rattle.reflection.specs.Reflection.{no_rd11, rd11}
 use Rattle.tables.specs.Nodes.{Node, Built, members_from_nodes, type_from_nodes, type_levels}
-use Rattle.tables.specs.Records.{binding_width, buffer_width, variable_width, type_width, type_at, variable_at, buffer_at, binding_at, record_word, holds_record}
+use Rattle.tables.specs.Records.{binding_width, buffer_width, variable_width, type_width, type_at, variable_at, buffer_at, binding_at, record_word}
+use Rattle.tables.specs.Records.{holds_record}
 use Rattle.tables.specs.Decode.{records_from, first_records, node_from_table, variables_from}
 use Rattle.tables.specs.Decode.{buffers_from, buffer_from_table, binding_from_table, variable_from_table, decode}
 use Rattle.reflection.specs.Rd11.{rd11_from_header}
@@ -63,9 +66,9 @@ record BuiltWords (b : Built Text) : Type 0 where
   offset_word : b.member_offset < 4294967296
   left_words : All NodeWords b.left
 
-members_words : (build : List (Node Text) → Option (Built Text)) → ((xs : List (Node Text)) (b : Built Text) → All NodeWords xs → build xs ≡ some b
+members_words : (build : List (Node Text) → Option (Built Text)) → ((xs : List (Node Text)) (b : Built Text) → All NodeWords xs → build xs ≡ Some b
     → BuiltWords b)
-    → (n : ℕ) (xs : List (Node Text)) (r : Members Text × List (Node Text)) → All NodeWords xs → members_from_nodes build n xs ≡ some r
+    → (n : ℕ) (xs : List (Node Text)) (r : Members Text × List (Node Text)) → All NodeWords xs → members_from_nodes build n xs ≡ Some r
     → EachIsWord (member_numbers r.0) × All NodeWords r.1
 unfolding members_from_nodes member_numbers EachIsWord
 members_words build one zero xs r all e =
@@ -78,7 +81,7 @@ members_words build one (suc n) xs r all e =
     subst (λ (q : Members Text × List (Node Text)). EachIsWord (member_numbers q.0) × All NodeWords q.1) (some_was e₂)
     ((first.offset_word, words_append (type_numbers t.type) (member_numbers ms.0) first.type_words rest), left)
 
-type_words : (levels : ℕ) (xs : List (Node Text)) (b : Built Text) → All NodeWords xs → type_from_nodes levels xs ≡ some b → BuiltWords b
+type_words : (levels : ℕ) (xs : List (Node Text)) (b : Built Text) → All NodeWords xs → type_from_nodes levels xs ≡ Some b → BuiltWords b
 unfolding type_from_nodes type_numbers EachIsWord
 type_words zero xs b all e = absurd (let apart : ◌≡◌ {A = ℕ} 0 1 = cc in omega arith)
 type_words (suc levels) [] b all e = absurd (let apart : ◌≡◌ {A = ℕ} 0 1 = cc in omega arith)
@@ -94,7 +97,7 @@ abbrev VariableWords : VariableRecord → Type 0
 VariableWords v = EachIsWord (v.offset ∷ v.size ∷ v.flags.0 ∷ v.texture_start ∷ v.texture_size ∷ v.sampler_start ∷ v.sampler_size ∷ [])
 
 variables_words : (vs : List VariableRecord) (ns : List (Node Text)) (typed : List (CBufferVariable Text Text)) → All VariableWords vs → All NodeWords ns
-    → variables_from vs ns ≡ some typed → AllWords variable_numbers typed
+    → variables_from vs ns ≡ Some typed → AllWords variable_numbers typed
 unfolding variables_from variable_from_table variable_numbers EachIsWord AllWords
 variables_words [] [] typed all nodes e = subst (AllWords variable_numbers) (some_was e) tt
 variables_words [] (n ∷ ns) typed all nodes e = absurd (let apart : ◌≡◌ {A = ℕ} 0 1 = cc in omega arith)
@@ -121,7 +124,7 @@ words_drop (suc n) [] all = tt
 words_drop (suc n) (v ∷ vs) all = words_drop n vs all.1
 
 buffers_words : (bs : List BufferRecord) (vs : List (CBufferVariable Text Text)) (filled : List (CBufferDef Text Text))
-    → All (λ b. EachIsWord (b.size ∷ b.flags ∷ b.cb_type ∷ [])) bs → AllWords variable_numbers vs → buffers_from bs vs ≡ some filled → BuffersWords filled
+    → All (λ b. EachIsWord (b.size ∷ b.flags ∷ b.cb_type ∷ [])) bs → AllWords variable_numbers vs → buffers_from bs vs ≡ Some filled → BuffersWords filled
 unfolding buffers_from buffer_from_table buffer_numbers BuffersWords
 buffers_words [] [] filled all own e = subst BuffersWords (some_was e) tt
 buffers_words [] (v ∷ vs) filled all own e = absurd (let apart : ◌≡◌ {A = ℕ} 0 1 = cc in omega arith)
@@ -155,7 +158,7 @@ HeaderWords h = EachIsWord (h.target_version ∷ h.compile_flags ∷ h.rd11.iden
     ∷ h.rd11.interface_slot_count ∷ [])
 
 first_records_lem : {A : Type 0} (P : A → Type 0) (width : ℕ) (record-at : List ℕ → ℕ → A) (t : List ℕ) (n : ℕ) (xs : List A) → ((i : ℕ) → P (record-at t i))
-    → first_records width record-at t n ≡ some xs → All P xs
+    → first_records width record-at t n ≡ Some xs → All P xs
 unfolding first_records
 first_records_lem P width record-at t n xs each e =
     let (inside, e₁) = check_was (leb n (length t / width)) _ xs e in
@@ -178,7 +181,7 @@ rd11_words_lem h w = go (eqb (major_of h.target_version) 5)
 -- What tables of words decode to.
 pub decode_words : (h : Header) (bindings buffers variables types : List ℕ) → HeaderWords h → WordTable bindings → WordTable buffers → WordTable variables
     → WordTable types
-    → (r : ResourceDef Text Text) → decode h bindings buffers variables types ≡ some r → NumbersAreWords r
+    → (r : ResourceDef Text Text) → decode h bindings buffers variables types ≡ Some r → NumbersAreWords r
 unfolding decode binding_at buffer_at variable_at type_at node_from_table EachIsWord
 decode_words h bindings buffers variables types header b f v t r e =
     let (bs, some-bs, e₁) = then_was (first_records binding_width binding_at bindings h.binding_count) _ r e in
@@ -248,7 +251,7 @@ module _ {N M D E : Type 0} (f : N → M) (g : D → E) where
 -- So what tables of words hold has words as numbers.
 pub held_words : (chunk edits : Bytes) (h : Header) (bindings buffers variables types : List ℕ) → HeaderWords h → WordTable bindings → WordTable buffers
     → WordTable variables
-    → WordTable types → (c : ResourceDef Bytes Bytes) → table_contents chunk edits h bindings buffers variables types ≡ some c → NumbersAreWords c
+    → WordTable types → (c : ResourceDef Bytes Bytes) → table_contents chunk edits h bindings buffers variables types ≡ Some c → NumbersAreWords c
 unfolding table_contents contents
 held_words chunk edits h bindings buffers variables types header b f v t c e =
     let (long, e₁) = check_was (leb (length chunk) chunk_limit && leb (length edits) chunk_limit) _ c e in

@@ -1,9 +1,10 @@
 -- General facts about lists, each by induction on the list: the end of a map, what holds of every element, what a test over all elements says, and two or
 -- three lists side by side.
+use Rattle.std.proofs.lemmas.Option.{none-some, same_Some}
+use Rattle.std.specs.Prelude.{Some}
 use mathlib.Core.Path.{◌≡◌, refl, ap, subst}
 use mathlib.Core.List.{List, [], ◌∷◌, ◌++◌, map}
 use mathlib.Core.Bool.{Bool, true, false}
-use mathlib.Core.Option.{some, none-ne-some, some-injective}
 use Prim.Native.Nat.{ℕ, zero, suc}
 use lib.ListN.{length, drop}
 use Rattle.text.proofs.Bools.{and-true}
@@ -38,15 +39,15 @@ every_all test [] e = tt
 every_all test (x ∷ xs) e = let (a, b) = and-true (test x) (every test xs) e in (a, every_all test xs b)
 
 -- What the search in a pool gives is an entry that passes the test.
-pub found_entry : {K : Type 0} (P : K × ℕ → Type 0) (test : K → Bool) (es : List (K × ℕ)) (o : ℕ) → All P es → find test es ≡ some o
+pub found_entry : {K : Type 0} (P : K × ℕ → Type 0) (test : K → Bool) (es : List (K × ℕ)) (o : ℕ) → All P es → find test es ≡ Some o
     → (k : K) × (test k ≡ true) × P (k, o)
 unfolding find
-found_entry P test [] o all e = absurd (none-ne-some o e)
+found_entry P test [] o all e = absurd (none-some o e)
 found_entry {K} P test (x ∷ es) o all e = go (λ e'. found_entry P test es o all.1 e') (test x.0) refl e
   where
-    go : (find test es ≡ some o → (k : K) × (test k ≡ true) × P (k, o)) → (b : Bool) → test x.0 ≡ b → hit b x.1 (find test es) ≡ some o
+    go : (find test es ≡ Some o → (k : K) × (test k ≡ true) × P (k, o)) → (b : Bool) → test x.0 ≡ b → hit b x.1 (find test es) ≡ Some o
         → (k : K) × (test k ≡ true) × P (k, o)
-    go next true is e' = (x.0, is, subst (λ (n : ℕ). P (x.0, n)) (some-injective x.1 o e') all.0)
+    go next true is e' = (x.0, is, subst (λ (n : ℕ). P (x.0, n)) (same_Some x.1 o e') all.0)
     go next false is e' = next e'
 
 -- Two lists side by side.

@@ -1,9 +1,9 @@
 -- Where a name or a default is placed, it lies in the final cells: one that a pool has was placed before with equal bytes, and the cells of any other stand
 -- at the cursor.
+use Rattle.std.specs.Prelude.{Some}
 use mathlib.Core.Path.{◌≡◌, sym, subst}
 use mathlib.Core.List.{List, [], ◌∷◌}
 use mathlib.Core.Bool.{Bool, true}
-use mathlib.Core.Option.{some}
 use Prim.Native.Nat.{ℕ, ◌<◌}
 use native.Mathlib.Omega.{arith}
 use lib.ListN.{length}
@@ -21,7 +21,7 @@ use Rattle.theorem_round_trip.proofs.Steps.{pad_leaves, interned_leaves, unless_
 
 module _ (cells : List (Cell Bytes Bytes)) where
   -- What a pool of names gives is a name with the same bytes.
-  old_name : (n : Bytes) (es : List (Bytes × ℕ)) (o : ℕ) → All (λ e. NameAt cells e.1 e.0) es → find (same_bytes n) es ≡ some o → NameAt cells o n
+  old_name : (n : Bytes) (es : List (Bytes × ℕ)) (o : ℕ) → All (λ e. NameAt cells e.1 e.0) es → find (same_bytes n) es ≡ Some o → NameAt cells o n
   old_name n es o all e =
       let (k, same, at) = found_entry (λ e. NameAt cells e.1 e.0) (same_bytes n) es o all e in
       subst (NameAt cells o) (sym (same_bytes_equal n k same)) at
@@ -71,7 +71,7 @@ module _ (cells : List (Cell Bytes Bytes)) where
         unless_empty_leaves (length n) (empty_name cells n) (λ some_byte. weaken_leaves (λ o at' h. some_name cells o n some_byte h)
         (place_inner_name_leaves at n readable))
 
-    old_default : (at : ℕ) (d : Bytes) (ps : Pools Bytes Bytes) (o : ℕ) → PoolsHold cells sm5 at ps → find (same_bytes d) ps.defaults ≡ some o
+    old_default : (at : ℕ) (d : Bytes) (ps : Pools Bytes Bytes) (o : ℕ) → PoolsHold cells sm5 at ps → find (same_bytes d) ps.defaults ≡ Some o
         → DefaultAt cells o d
     old_default at d ps o inv e =
         let (k, same, h) = found_entry (λ e. DefaultAt cells e.1 e.0) (same_bytes d) ps.defaults o inv.defaults e in

@@ -1,4 +1,5 @@
 -- Every number that is read is a word: it is a word of the chunk, whose bytes are below 256, or 0.
+use Rattle.std.specs.Prelude.{Ok}
 use mathlib.Core.Path.{◌≡◌}
 use mathlib.Core.Bool.{Bool, true, false}
 use mathlib.Core.List.{List, [], ◌∷◌}
@@ -10,7 +11,6 @@ use Rattle.words.specs.Words.{word_at}
 use Rattle.words.proofs.Words.{word_bounded}
 use Rattle.reflection.specs.Strides.{binding_stride, buffer_stride, variable_stride, member_stride}
 use Rattle.reflection.specs.declared.Text.{Text}
-use Rattle.reflection.specs.Outcome.{ok}
 use Rattle.reflection.specs.Reflection.{TypeDesc, Members, CBufferVariable, CBufferDef, ResourceBinding, ResourceDef, Rd11, major_of, identifier_of}
 use Rattle.reflection.specs.Reflection.{stride_of, slots_of, is_sm5, is_wide}
 use Rattle.tables.specs.Nodes.{type_levels}
@@ -172,7 +172,7 @@ module _ (chunk : Bytes) (bytes : (i : ℕ) → get_or chunk i 0 < 256) where
       then_leaves Rd11Words DefWords _ _ r (rd11_words_lem (eqb (major_of (word_at chunk 16)) 5) r) (λ words r' three. tables_words _ words three r')))))
 
   -- What a chunk of bytes reads as, in whatever room.
-  module _ (room : Room) (d : ResourceDef Text Text) (reads : read room chunk ≡ ok d) where
+  module _ (room : Room) (d : ResourceDef Text Text) (reads : read room chunk ≡ Ok d) where
     pub read_words : NumbersAreWords d
     unfolding read
     read_words = (value_left DefWords (read_chunk chunk room) d (chunk_words room) reads).1

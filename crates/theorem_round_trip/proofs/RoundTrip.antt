@@ -37,7 +37,8 @@ use Rattle.theorem_round_trip.proofs.Bindings.{length_binding_words, BindingAt, 
 use Rattle.theorem_round_trip.proofs.Buffers.{buffer_cost, BufferAt, BufferRead, buffer_places_lem, length_buffer_words, buffer_read}
 use Rattle.theorem_round_trip.proofs.Maps.{map_def_twice, map_def_same}
 use Rattle.theorem_round_trip.proofs.Costs.{binding_cost, read_cost, room_enough_lem}
-use Rattle.theorem_round_trip.proofs.Header.{BodyAt, place_body_leaves, header_size_lem, length_header_words, header_small, major_known, major_five, rd11_read}
+use Rattle.theorem_round_trip.proofs.Header.{BodyAt, place_body_leaves, header_size_lem, length_header_words, header_small, major_known, major_five}
+use Rattle.theorem_round_trip.proofs.Header.{rd11_read}
 
 module _ (r : ResourceDef Bytes Bytes) (fine : Readable r) (short : length (layout bytes_facts r).cells ≤ chunk_limit) where
   abbrev cells : List (Cell Bytes Bytes)

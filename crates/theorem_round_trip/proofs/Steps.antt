@@ -1,10 +1,10 @@
 -- What the steps of writing leave in the FINAL cells of a layout: `Leaves`. If what the pools say is so there, and a step's cells stand there where the
 -- cursor was, then what the pools say after the step is so, and so is `Post` of the step's result and of the cursor after it. Since every rule speaks of
 -- the final cells, nothing has to be carried over an append; each rule is its step's definition.
+use Rattle.std.specs.Prelude.{Option, None, Some}
 use mathlib.Core.Path.{◌≡◌, refl, ap, sym, ◌∙◌, subst}
 use mathlib.Core.List.{List, [], ◌++◌}
 use mathlib.Core.Bool.{Bool, true, false}
-use mathlib.Core.Option.{Option, none, some}
 use Prim.Native.Nat.{ℕ, zero, suc, ◌+◌, ◌*◌, ◌<◌, ◌≤◌}
 use native.Mathlib.Omega.{arith}
 use native.Mathlib.Nat.{add-zero, le-add_right}
@@ -14,7 +14,8 @@ use Rattle.tables.proofs.Levels.{Fits}
 use Rattle.reflection.specs.Contents.{Bytes}
 use Rattle.read_spec.specs.Step.{room}
 use Rattle.read_spec.specs.Read.{read_type}
-use Rattle.write_spec.specs.Step.{Cell, byte, Pools, Placed, WriteStep, ◌>>=◌, return, append, add_to_pool, pad, padding_at, word_cells, reserve, found}
+use Rattle.write_spec.specs.Step.{Cell, byte, Pools, Placed, WriteStep, ◌>>=◌, return, append, add_to_pool, pad, padding_at, word_cells, reserve}
+use Rattle.write_spec.specs.Step.{found}
 use Rattle.write_spec.specs.Step.{interned, add_to_pool_if, unless_empty, enter_member, in_member_pool}
 use Rattle.theorem_round_trip.proofs.Lists.{All, all_weaken}
 use Rattle.theorem_round_trip.proofs.Holds.{Holds, holds_left, holds_right, bytes_of, length_word_cells, WordsAt}
@@ -182,15 +183,15 @@ module _ {cells : List (Cell Bytes Bytes)} {sm5 : Bool} where
   }
 
   pub interned_leaves : {Post : ℕ → ℕ → Type 0} (share : Bool) {at : ℕ} {look : Pools Bytes Bytes → Option ℕ} {m : WriteStep Bytes Bytes ℕ}
-      → ((ps : Pools Bytes Bytes) (o : ℕ) → PoolsHold cells sm5 at ps → look ps ≡ some o → Post o at) → Leaves cells sm5 at m Post
+      → ((ps : Pools Bytes Bytes) (o : ℕ) → PoolsHold cells sm5 at ps → look ps ≡ Some o → Post o at) → Leaves cells sm5 at m Post
       → Leaves cells sm5 at (interned share look m) Post
   unfolding interned
   interned_leaves {Post} true {at} {look} {m} old new = record { run = λ ps inv h. go ps inv (look ps) refl h }
     where
       go : (ps : Pools Bytes Bytes) → PoolsHold cells sm5 at ps → (l : Option ℕ) → look ps ≡ l → Holds cells at (found l m at ps).cells
           → After cells sm5 at (found l m at ps) Post
-      go ps inv none e h = new.run ps inv h
-      go ps inv (some o) e h = stay at o ps inv (old ps o inv e)
+      go ps inv None e h = new.run ps inv h
+      go ps inv (Some o) e h = stay at o ps inv (old ps o inv e)
   interned_leaves false old new = record { run = λ ps inv h. new.run ps inv h }
 
   pub unless_empty_leaves : {Post : ℕ → ℕ → Type 0} {at : ℕ} (n : ℕ) {m : WriteStep Bytes Bytes ℕ} → (n ≡ 0 → Post 0 at) → (0 < n → Leaves cells sm5 at m Post)

@@ -9,7 +9,8 @@ use borrow.Author.Tests.{eqb-true, ne_eqb}
 use lib.Dec.{eqb}
 use lib.ListN.{length, take, drop, get_or, length-append}
 use Rattle.words.proofs.Parts.{fits_inside, part_inside}
-use Rattle.text.specs.declared.Found.TheVariants.{At}
+use Rattle.text.specs.Strings.{span}
+use Rattle.std.specs.Prelude.{Some}
 use Rattle.text.specs.Utf8.{well_formed}
 use Rattle.text.specs.Strings.{cstring_at, without_nul}
 use Rattle.text.proofs.Bools.{and-true}
@@ -60,7 +61,7 @@ text_cells cells o n cell h = ap (λ (k : ℕ). take k (drop o cells)) (sym (len
 module _ (cells : List (Cell Bytes Bytes)) where
   -- The name s lies at the offset o.
   pub record NameAt (o : ℕ) (s : Bytes) : Type 0 where
-    pub found : cstring_at (bytes_of cells) o ≡ At o (length s)
+    pub found : cstring_at (bytes_of cells) o ≡ Some (span o (length s))
     pub is : text_in cells (in_chunk o (length s)) ≡ name_in s
     pub below_end : o < length cells
     pub positive : 0 < o
@@ -85,7 +86,7 @@ module _ (cells : List (Cell Bytes Bytes)) where
 
   -- A name that may be empty: then its offset is 0.
   pub record NameOrEmpty (o : ℕ) (s : Bytes) : Type 0 where
-    pub found : cstring_or_empty (bytes_of cells) o ≡ At o (length s)
+    pub found : cstring_or_empty (bytes_of cells) o ≡ Some (span o (length s))
     pub is : text_in cells (in_chunk o (length s)) ≡ name_in s
     pub small : o ≤ length cells
     pub empty : length s ≡ 0 → o ≡ 0
@@ -101,7 +102,7 @@ module _ (cells : List (Cell Bytes Bytes)) where
   pub empty_name : (s : Bytes) → length s ≡ 0 → NameOrEmpty 0 s
   unfolding cstring_or_empty text_in name_in cells_of_name cells_in cells_of
   empty_name s e = record {
-    found = ap (At 0) (sym e);
+    found = ap (λ (n : ℕ). Some (span 0 n)) (sym e);
     is = empty_text s name_in (λ i. (sym no_bytes i, [])) e;
     small = omega arith;
     empty = λ _. refl;
@@ -114,14 +115,14 @@ module _ (cells : List (Cell Bytes Bytes)) where
 
   -- The default d lies at the offset o; an empty one at 0.
   pub record DefaultAt (o : ℕ) (d : Bytes) : Type 0 where
-    pub found : (size : ℕ) → default_readable size d ≡ true → default_at (bytes_of cells) o size ≡ At o (length d)
+    pub found : (size : ℕ) → default_readable size d ≡ true → default_at (bytes_of cells) o size ≡ Some (span o (length d))
     pub is : text_in cells (in_chunk o (length d)) ≡ default_in d
     pub small : o ≤ length cells
 
   pub empty_default : (d : Bytes) → length d ≡ 0 → DefaultAt 0 d
   unfolding default_at text_in default_in cells_of_default cells_in cells_of
   empty_default d e = record {
-    found = λ size _. ap (At 0) (sym e);
+    found = λ size _. ap (λ (n : ℕ). Some (span 0 n)) (sym e);
     is = empty_text d default_in (λ i. (sym no_bytes i, [])) e;
     small = omega arith;
   }
@@ -143,7 +144,7 @@ module _ (cells : List (Cell Bytes Bytes)) where
         found = λ size e.
             let long = sized size d some_byte e in
             let fits = fits_inside (length (bytes_of cells)) (suc o) size (omega (arith, written.fits, long)) in
-            rw (default_at, fits) (ap (At (suc o)) (sym long));
+            rw (default_at, fits) (ap (λ (n : ℕ). Some (span (suc o) n)) (sym long));
         is = λ i. (bytes i, own i);
         small = omega (arith, h.fits);
       }

@@ -8,7 +8,8 @@ use native.Mathlib.Omega.{arith}
 use native.Mathlib.Nat.{add-zero, add_assoc}
 use lib.ListN.{length, get_or}
 use Rattle.words.specs.Words.{word_at, low_at, high_at}
-use Rattle.text.specs.declared.Found.TheVariants.{At}
+use Rattle.text.specs.Strings.{span}
+use Rattle.std.specs.Prelude.{Some}
 use Rattle.text.specs.Strings.{cstring_at}
 use Rattle.reflection.specs.Limits.{chunk_limit}
 use Rattle.reflection.specs.Strides.{type_stride, member_stride}
@@ -111,9 +112,9 @@ name_small cells true o n short named h = omega (arith, h.small)
 
 type_name_found : (cells : List (Cell Bytes Bytes)) (sm5 : Bool) (at o : ℕ) (n : Bytes) → NamedIf sm5 n → NameOrEmpty cells o n
     → word_if sm5 (bytes_of cells) (at + 32) ≡ o
-    → type_name_at (bytes_of cells) sm5 at ≡ At o (length n)
+    → type_name_at (bytes_of cells) sm5 at ≡ Some (span o (length n))
 unfolding type_name_at word_if
-type_name_found cells false at o n named h e = λ i. At (e i) (sym named i)
+type_name_found cells false at o n named h e = λ i. Some (span (e i) (sym named i))
 type_name_found cells true at o n named h e = ap (cstring_or_empty (bytes_of cells)) e ∙ h.found
 
 -- The words of member records: each name is found, each type reads and lies below o.

@@ -1,8 +1,8 @@
 -- Where a type is placed, its descriptor reads as the type and lies below the cursor: by induction on the type. A type that a pool has is an equal one.
+use Rattle.std.specs.Prelude.{Some}
 use mathlib.Core.Path.{◌≡◌, refl, sym, subst}
 use mathlib.Core.List.{List, [], ◌∷◌}
 use mathlib.Core.Bool.{Bool, true, false, ◌&&◌}
-use mathlib.Core.Option.{some}
 use Prim.Native.Nat.{ℕ, ◌+◌, ◌*◌, ◌<◌, ◌≤◌}
 use native.Mathlib.Omega.{arith}
 use borrow.Author.Tests.{eqb-true}
@@ -68,7 +68,7 @@ module _ (cells : List (Cell Bytes Bytes)) (short : length cells ≤ chunk_limit
   abbrev TypeBelow : TypeDesc Bytes → ℕ → ℕ → Type 0
   TypeBelow t o at = TypeAt cells sm5 o t × (o < at)
 
-  old_type : (at : ℕ) (t : TypeDesc Bytes) (ps : Pools Bytes Bytes) (o : ℕ) → PoolsHold cells sm5 at ps → find (same_type same_bytes t) ps.types ≡ some o
+  old_type : (at : ℕ) (t : TypeDesc Bytes) (ps : Pools Bytes Bytes) (o : ℕ) → PoolsHold cells sm5 at ps → find (same_type same_bytes t) ps.types ≡ Some o
       → TypeBelow t o at
   old_type at t ps o inv e =
       let (k, same, h) = found_entry (λ e. TypeAt cells sm5 e.1 e.0 × (e.1 < at)) (same_type same_bytes t) ps.types o inv.types e in

@@ -2,9 +2,8 @@
 -- ROUND TRIP (document 01, demand 2: what is written reads back with every field restored and writes the same bytes again). `Restored r` says of a
 -- reflection's canonical form: it reads; what is read has every number, name and default of r; each text lies where the layout put that text's cells; each
 -- default lies where the layout's result says; and what was read is written as the same bytes. proofs/RoundTrip.antt proves it of all that is readable.
-use Rattle.std.specs.Prelude.{◌≡◌, List, [], ◌∷◌, ◌++◌, ℕ, ◌<◌, length, take, drop}
+use Rattle.std.specs.Prelude.{◌≡◌, List, [], ◌∷◌, ◌++◌, ℕ, ◌<◌, length, take, drop, Ok}
 use Rattle.reflection.specs.declared.Text.{Text}
-use Rattle.reflection.specs.Outcome.{ok}
 use Rattle.reflection.specs.Reflection.{TypeDesc, type_desc, Members, no_member, member, CBufferVariable, CBufferDef, ResourceBinding}
 use Rattle.reflection.specs.Reflection.{ResourceDef, map_def, slots_of, identifier_of, stride_of}
 use Rattle.reflection.specs.Texts.{in_chunk}
@@ -80,7 +79,7 @@ default_places long o r = places_of long (section_offsets o.sections) (defaults_
 
 pub record Restored (r : ResourceDef Bytes Bytes) : Type 0 where
   pub read_back : ResourceDef Text Text
-  pub reads : read full_room (canonical r) ≡ ok read_back
+  pub reads : read full_room (canonical r) ≡ Ok read_back
   pub restored : contents (canonical r) [] read_back ≡ r
   pub assigned : map_def (cells_in (layout bytes_facts r).cells) (cells_in (layout bytes_facts r).cells) read_back ≡ map_def cells_of_name cells_of_default r
   pub default_places : defaults_of read_back ≡ default_places length (layout bytes_facts r).result r

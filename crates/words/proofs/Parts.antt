@@ -1,11 +1,9 @@
 -- Whether a part lies in a list, as the facts on numbers that the test stands for.
-use mathlib.Core.Path.{◌≡◌, refl, sym}
-use mathlib.Core.Bool.{Bool, true, false}
+use mathlib.Core.Path.{◌≡◌}
+use mathlib.Core.Bool.{true, false}
 use mathlib.Core.List.{List, []}
-use Prim.Native.Nat.{ℕ, ◌+◌, ◌-◌, ◌≤◌, ◌<◌}
-use native.Mathlib.Omega.{arith}
+use Prim.Native.Nat.{ℕ, ◌+◌, ◌≤◌, ◌<◌}
 use borrow.Author.Tests.{le-leb, lt-leb, leb-true, leb-false}
-use lib.Dec.{leb}
 use lib.ListN.{length, take, drop}
 use Rattle.words.specs.Parts.{inside, part}
 
@@ -25,18 +23,6 @@ module _ (long place n : ℕ) where
   pub exceeds_outside : long < place + n → inside long place n ≡ false
   unfolding inside
   exceeds_outside h = lt-leb (place + n) long h
-
--- two tests that follow from each other are one
-same_test : (t u : Bool) → (t ≡ true → u ≡ true) → (t ≡ false → u ≡ false) → t ≡ u
-same_test true u f g = sym (f refl)
-same_test false u f g = sym (g refl)
-
--- the code's test, which does not wrap: the place against the room that n elements leave
-pub place_in_room : (long place n : ℕ) → n ≤ long → leb place (long - n) ≡ inside long place n
-place_in_room long place n h =
-    same_test (leb place (long - n)) (inside long place n)
-    (λ e. fits_inside long place n (omega (arith, leb-true place (long - n) e)))
-    (λ e. exceeds_outside long place n (omega (arith, leb-false place (long - n) e)))
 
 module _ (s : List ℕ) (place n : ℕ) where
   pub part_inside : inside (length s) place n ≡ true → part s place n ≡ take n (drop place s)

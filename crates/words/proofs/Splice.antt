@@ -14,6 +14,10 @@ module _ {ℓ} {A : Type ℓ} where
   unfolding splice
   splice_nil l a = refl
 
+  pub splice_none : (l : List A) (a : ℕ) (xs : List A) → length xs ≡ 0 → splice l a xs ≡ l
+  splice_none l a [] e = splice_nil l a
+  splice_none l a (x ∷ xs) e = absurd (omega arith)
+
   pub splice_cons : (l : List A) (a : ℕ) (x : A) (xs : List A) → splice l a (x ∷ xs) ≡ splice (set l a x) (suc a) xs
   unfolding splice
   splice_cons l a x xs = refl

@@ -16,17 +16,17 @@ pub fn at_most(a: u32, b: u32) -> bool
 pub fn both(a: bool, b: bool) -> bool
     ensures { result ≡ (a && b) }
 {
-    if a { b } else { false }
+    a && b
 }
 
 pub fn either(a: bool, b: bool) -> bool
     ensures { result ≡ (a || b) }
 {
-    if a { true } else { b }
+    a || b
 }
 
 pub fn one_of(x: u32, a: u32, b: u32) -> bool
     ensures { result ≡ (eqb x a || eqb x b) }
 {
-    either(same(x, a), same(x, b))
+    x == a || x == b
 }

@@ -1,18 +1,16 @@
 -- What texts are understood as: document 01, "Spelling and listing", "Edge chunks" and the example of refusal 18.
-use Rattle.std.specs.Prelude.{List, [], ◌∷◌, ◌++◌, ℕ}
-use Rattle.reflection.specs.Outcome.{because}
+use Rattle.std.specs.Prelude.{List, [], ◌∷◌, ◌++◌, ℕ, Ok, Err}
 use Rattle.reflection.specs.Contents.{Bytes}
 use Rattle.text_output.specs.Ascii.{ascii}
-use Rattle.spelling_parse.specs.declared.SpelledType.TheVariants.{Understood, Refused}
 use Rattle.worked_examples.specs.Example.{Example, parses}
 
 -- A text with class, base, rows, columns and elements; or a text that is 18.
 abbrev understood : Bytes → ℕ → ℕ → ℕ → ℕ → ℕ → Example
 understood text class base rows columns elements =
-    parses text (Understood (record { class = class; base = base; rows = rows; columns = columns; elements = elements }))
+    parses text (Ok (record { class = class; base = base; rows = rows; columns = columns; elements = elements }))
 
 abbrev not_understood : Bytes → Example
-not_understood text = parses text (Refused (because 18))
+not_understood text = parses text (Err 18)
 
 unfoldable pub parsing_examples : List Example
 parsing_examples =

@@ -1,7 +1,6 @@
 -- What chunks read as: document 01, "Refusals" and "Edge chunks".
-use Rattle.std.specs.Prelude.{List, [], ◌∷◌, ◌++◌, ℕ, ◌*◌, replicate}
+use Rattle.std.specs.Prelude.{List, [], ◌∷◌, ◌++◌, ℕ, ◌*◌, replicate, Ok}
 use Rattle.reflection.specs.declared.Text.{Text}
-use Rattle.reflection.specs.Outcome.{ok}
 use Rattle.reflection.specs.Reflection.{ResourceDef, no_member, member, rd11}
 use Rattle.reflection.specs.Texts.{in_chunk}
 use Rattle.reflection.specs.Contents.{Bytes}
@@ -14,7 +13,7 @@ use Rattle.worked_examples.specs.Chunks.{with_bindings, binding, empty, structur
 
 -- With document 01's whole room.
 abbrev reads_as : Bytes → ResourceDef Text Text → Example
-reads_as chunk r = reads full_room chunk (ok r)
+reads_as chunk r = reads full_room chunk (Ok r)
 
 abbrev refuses : Bytes → ℕ → Example
 refuses chunk number = reads full_room chunk (refusal number)

@@ -1,8 +1,7 @@
 -- Spellings and declarations: document 01, "Spelling and listing" and the example of refusal 18.
-use Rattle.std.specs.Prelude.{List, [], ◌∷◌, ◌++◌, ℕ}
+use Rattle.std.specs.Prelude.{List, [], ◌∷◌, ◌++◌, ℕ, Ok}
 use Rattle.reflection.specs.declared.Text.{Text}
 use Rattle.reflection.specs.declared.TypeDesc.{TypeDesc}
-use Rattle.reflection.specs.Outcome.{ok}
 use Rattle.reflection.specs.Texts.{in_chunk}
 use Rattle.reflection.specs.Contents.{Bytes}
 use Rattle.text_output.specs.Ascii.{ascii}
@@ -43,7 +42,7 @@ abbrev numeric : ℕ → ℕ → ℕ → ℕ → ℕ → TypeDesc
 numeric = named 0 (in_chunk 0 0)
 
 abbrev spelled : TypeDesc → Bytes → Example
-spelled t bytes = spells chunk edits t (ok bytes)
+spelled t bytes = spells chunk edits t (Ok bytes)
 
 abbrev refuses : TypeDesc → ℕ → Example
 refuses t number = spells chunk edits t (refusal number)
@@ -81,7 +80,7 @@ spelling_examples =
     ∷ refuses_into 5 (numeric 1 3 1 4 0) 17
     ∷ refuses_into 0 (numeric 4 3 1 1 0) 18
     -- "a declaration line for a variable: its type's spelling, a space, its name, a semicolon"
-    ∷ declares chunk edits (numeric 1 3 1 4 10) (in_edits 0 6) (ok (ascii "float4[10] glyphs;"))
+    ∷ declares chunk edits (numeric 1 3 1 4 10) (in_edits 0 6) (Ok (ascii "float4[10] glyphs;"))
     ∷ declares chunk edits (numeric 4 3 1 1 0) (in_edits 0 8) (refusal 16)
     ∷ declares chunk edits (numeric 4 3 1 1 0) (in_edits 0 6) (refusal 18)
     ∷ []

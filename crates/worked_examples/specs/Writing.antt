@@ -1,6 +1,5 @@
 -- Canonical forms and payloads: document 01, "Edge chunks" and the examples of refusals 16 and 17.
-use Rattle.std.specs.Prelude.{List, [], ◌∷◌, ◌++◌, ℕ}
-use Rattle.reflection.specs.Outcome.{ok}
+use Rattle.std.specs.Prelude.{List, [], ◌∷◌, ◌++◌, ℕ, Ok}
 use Rattle.reflection.specs.Reflection.{ResourceDef, rd11}
 use Rattle.reflection.specs.Texts.{in_chunk}
 use Rattle.reflection.specs.Contents.{Bytes, contents}
@@ -13,7 +12,7 @@ use Rattle.worked_examples.specs.Chunks.{case_e, case_vdefault, chunk_ab, with_b
 
 -- With the writer's scratch, into an output of exactly as many bytes as there are.
 abbrev written_as : ResourceDef Bytes Bytes → Bytes → ℕ → Example
-written_as r chunk n = writes scratch_size n r (ok chunk) n
+written_as r chunk n = writes scratch_size n r (Ok chunk) n
 
 -- Major 4, one binding `t`, in a space; empty creator.
 abbrev binding_t : ℕ → ResourceDef Bytes Bytes
@@ -27,11 +26,11 @@ unfoldable pub writing_examples : List Example
 writing_examples =
     -- "P: E's canonical form is 32 bytes, creator offset 28, ending 00 AB AB AB. Its unedited payload is the 28."
     written_as (contents [] [] empty) (header 0 0 0 28 major4 28 ++ (0x00 ∷ 0xab ∷ 0xab ∷ 0xab ∷ [])) 32
-    ∷ hands_back 0 case_e (contents case_e [] empty) (ok whole_chunk) 28
+    ∷ hands_back 0 case_e (contents case_e [] empty) (Ok whole_chunk) 28
     -- "P: major 4, one binding `t`, empty creator: name at 60, creator at 62, length 64"
     ∷ written_as (binding_t 0) written_t 64
     -- the payload of what E does not read as: "else the output's written part"
-    ∷ hands_back 64 case_e (binding_t 0) (ok (written written_t)) 64
+    ∷ hands_back 64 case_e (binding_t 0) (Ok (written written_t)) 64
     -- "P, case V: .. buffers at 28, variables at 64, type at 92, creator at 108, length 112": V as it reads is written as V
     ∷ written_as (contents (case_v 0) [] (read_v float 108 (in_chunk 0 0))) (case_v 0) 112
     -- "P: with a 4-byte default it lies at 108 and the length is 116"

@@ -1,11 +1,10 @@
 -- What the writer answers and leaves.
+use Rattle.reflection.specs.Outcome.{Outcome}
 use Rattle.std.specs.Prelude.{◌≡◌, List, ℕ, length}
 use Rattle.reflection.specs.declared.ResourceDef.{ResourceDef as Header}
-use Rattle.reflection.specs.Outcome.{Outcome}
 use Rattle.reflection.specs.Contents.{Bytes}
 use Rattle.readable.specs.Readable.{table_contents}
-use Rattle.text_output.specs.declared.Written.{Written}
-use Rattle.text_output.specs.Written.{written_of, output_of}
+use Rattle.text_output.specs.Written.{written_of, output_of, Written}
 use Rattle.write_spec.specs.Outcome.{write}
 
 -- What is written for a header, four tables and two buffers of texts, with this scratch and this output lent: only their lengths count.

@@ -4,8 +4,7 @@
 ghost use Rattle.std.specs.Prelude.{◌≡◌, length, replicate};
 ghost use Rattle.write.specs.WriteInto.{write_into, WrittenInto};
 
-use reflection::ResourceDef;
-use text_output::Written;
+use reflection::{Refusal, ResourceDef};
 
 // Writes the canonical form, or refuses; the scratch is left as it comes.
 fn write_tables<'a>(
@@ -18,13 +17,13 @@ fn write_tables<'a>(
     types: &[u32],
     scratch: &mut [u32],
     out: &mut [u8],
-) -> Written
+) -> Result<usize, Refusal>
     ensures written { WrittenInto (write_into scratch.old out.old chunk.now edits.now def
         bindings.now buffers.now variables.now types.now) out.old out.new result }
     ensures scratch { length scratch.new ≡ length scratch.old }
 {
     if scratch.len() < write_spec::SCRATCH_WORDS {
-        return text_output::refuse(out, reflection::NO_ROOM);
+        return text_output::refuse(out, Refusal::NoRoom);
     }
     if readable::readable(chunk, edits, def, bindings, buffers, variables, types) {
         let at = write_tables::write_chunk(
@@ -32,7 +31,7 @@ fn write_tables<'a>(
         );
         return text_output::finish(out, at);
     }
-    text_output::refuse(out, reflection::NOT_READABLE)
+    text_output::refuse(out, Refusal::NotReadable)
 }
 
 // Writes the canonical form of the reflection that the tables hold. 15 where the scratch is shorter than `write_spec::SCRATCH_WORDS`, 16 where the
@@ -48,7 +47,7 @@ pub fn write_rdef_canonical<'a>(
     types: &[u32],
     scratch: &mut [u32],
     out: &mut [u8],
-) -> Written
+) -> Result<usize, Refusal>
     ensures written { WrittenInto (write_into scratch.old out.old chunk.now edits.now def
         bindings.now buffers.now variables.now types.now) out.old out.new result }
     ensures scratch { scratch.new ≡ replicate (length scratch.old) 0 }

@@ -1,29 +1,21 @@
--- Stores one after the other are one write of their bytes, and padding is a part of three bytes of 0xAB.
-use mathlib.Core.Path.{◌≡◌, refl, ap, ◌∙◌}
+-- The bytes of a word, and padding: a part of three bytes of 0xAB.
+use mathlib.Core.Path.{◌≡◌, refl}
 use mathlib.Core.List.{List, [], ◌∷◌}
-use Prim.Native.Nat.{ℕ, zero, suc, ◌+◌, ◌-◌, ◌%◌, ◌≤◌}
-use native.Mathlib.Nat.{sub-zero}
+use Prim.Native.Nat.{ℕ, zero, suc, ◌+◌, ◌-◌, ◌/◌, ◌%◌, ◌≤◌}
 use native.Mathlib.Omega.{arith}
-use lib.ListN.{set, take, replicate, length-replicate}
-use Rattle.words.specs.Splice.{splice, Put}
+use lib.ListN.{take, replicate, length-replicate}
+use Rattle.std.specs.Int.{to_le_bytes, w32}
+use Rattle.words.specs.Words.{word_bytes}
+use Rattle.words.specs.Splice.{Put}
 use Rattle.write_spec.specs.Step.{padding_at}
 
-module _ (l : List ℕ) (at a b c d : ℕ) where
-  pub four_sets : set (set (set (set l at a) (at + 1) b) (at + 2) c) (at + 3) d ≡ splice l at (a ∷ b ∷ c ∷ d ∷ [])
-  unfolding splice
-  four_sets =
-      let e1 : at + 1 ≡ suc at = omega arith in
-      let e2 : at + 2 ≡ suc (suc at) = omega arith in
-      let e3 : at + 3 ≡ suc (suc (suc at)) = omega arith in
-      λ i. set (set (set (set l at a) (e1 i) b) (e2 i) c) (e3 i) d
-
-  pub four_stores : {l₁ l₂ l₃ l₄ : List ℕ} → l₁ ≡ splice l at (a ∷ []) → l₂ ≡ splice l₁ (at + 1) (b ∷ []) → l₃ ≡ splice l₂ (at + 2) (c ∷ [])
-      → l₄ ≡ splice l₃ (at + 3) (d ∷ []) → l₄ ≡ splice l at (a ∷ b ∷ c ∷ d ∷ [])
-  unfolding splice
-  four_stores h₁ h₂ h₃ h₄ =
-      h₄
-      ∙ ap (λ (m : List ℕ). set m (at + 3) d) (h₃ ∙ ap (λ (m : List ℕ). set m (at + 2) c) (h₂ ∙ ap (λ (m : List ℕ). set m (at + 1) b) h₁))
-      ∙ four_sets
+-- the bytes of a word, as the library writes them
+pub le_bytes_word : (n : ℕ) → to_le_bytes w32 n ≡ word_bytes n
+unfolding word_bytes
+le_bytes_word n =
+    let third : n / 65536 % 256 ≡ n / 256 / 256 % 256 = omega arith in
+    let fourth : n / 16777216 % 256 ≡ n / 256 / 256 / 256 % 256 = omega arith in
+    λ i. n % 256 ∷ n / 256 % 256 ∷ third i ∷ fourth i ∷ []
 
 -- the first n of three
 abbrev three : List ℕ
@@ -44,6 +36,8 @@ padding_short at = omega arith
 pub padded_near : {out out' : List ℕ} {at to : ℕ} → Put out at (replicate (padding_at at) 0xab) out' to → to ≤ at + 3
 padded_near {at = at} padded = omega (arith, padded.next, length-replicate {A = ℕ} (padding_at at) 0xab, padding_short at)
 
-pub padding_bytes : (at : ℕ) → take ((4 - at % 4) % 4 - 0) three ≡ replicate (padding_at at) 0xab
+pub padding_bytes : (at : ℕ) → take (at + (4 - at % 4) % 4 - at) three ≡ replicate (padding_at at) 0xab
 unfolding padding_at
-padding_bytes at = rw (sub-zero ((4 - at % 4) % 4)) (three_first ((4 - at % 4) % 4) (omega arith))
+padding_bytes at =
+    let count : at + (4 - at % 4) % 4 - at ≡ (4 - at % 4) % 4 = omega arith in
+    rw count (three_first ((4 - at % 4) % 4) (omega arith))

@@ -8,47 +8,16 @@ ghost use Rattle.text_output.specs.Cursor.{farthest};
 ghost use Rattle.write_spec.specs.Step.{padding_at};
 ghost use Rattle.write_bytes.specs.Bytes.{joined_bytes};
 
-// Writes one byte; nothing where it lies past the output's end.
-fn store(out: &mut [u8], at: usize, b: u8)
-    ensures { out.new ≡ splice out.old at (b ∷ []) }
-{
-    if at < out.len() {
-        out[at] = b;
-    }
-}
-
-// Writes the four bytes of a word, all of which have room: one test of the range serves the four stores.
-fn put_word_within(out: &mut [u8], at: usize, word: u32)
-    requires { at + 4 ≤ length out.old }
-    ensures { out.new ≡ splice out.old at (word_bytes word) }
-{
-    out[at] = (word % 256) as u8;
-    out[at + 1] = (word / 256 % 256) as u8;
-    out[at + 2] = (word / 256 / 256 % 256) as u8;
-    out[at + 3] = (word / 256 / 256 / 256 % 256) as u8;
-}
-
-// Writes the four bytes of a word one by one: near the output's end and past it.
-fn put_word_near_end(out: &mut [u8], at: usize, word: u32)
-    requires { at + 4 < 2 ^ 64 }
-    ensures { out.new ≡ splice out.old at (word_bytes word) }
-{
-    store(out, at, (word % 256) as u8);
-    store(out, at + 1, (word / 256 % 256) as u8);
-    store(out, at + 2, (word / 256 / 256 % 256) as u8);
-    store(out, at + 3, (word / 256 / 256 / 256 % 256) as u8);
-}
-
-// Writes a word; the answer is the cursor after it.
+// Writes a word; the answer is the cursor after it. Where all four bytes have room they are one store of the machine.
 fn put_word(out: &mut [u8], at: usize, word: u32) -> usize
     requires { at + 4 < 2 ^ 64 }
     ensures { Put out.old at (word_bytes word) out.new result }
 {
     if words::inside(out.len(), at, 4) {
-        put_word_within(out, at, word);
-        return at + 4;
+        out[at..at + 4].copy_from_slice(&word.to_le_bytes());
+    } else {
+        words::overwrite(out, at, &word.to_le_bytes());
     }
-    put_word_near_end(out, at, word);
     at + 4
 }
 
@@ -58,10 +27,8 @@ pub fn put_word_bytes(out: &mut [u8], at: usize, words: &[u32]) -> usize
     ensures { Put out.old at (joined_bytes words.now) out.new result }
 {
     let mut to = at;
-    let mut i = 0;
-    while i < words.len() {
-        to = put_word(out, to, words[i]);
-        i += 1;
+    for word in words {
+        to = put_word(out, to, *word);
     }
     to
 }
@@ -71,8 +38,8 @@ pub fn put_padding(out: &mut [u8], at: usize) -> usize
     requires { at ≤ farthest }
     ensures { Put out.old at (replicate (padding_at at) 0xab) out.new result }
 {
-    let padding = [0xab, 0xab, 0xab];
-    text_output::put_bytes(out, at, &padding[0..(4 - at % 4) % 4])
+    let end = at.next_multiple_of(4);
+    text_output::put_bytes(out, at, &[0xab; 3][..end - at])
 }
 
 // Writes a name's bytes and its NUL; the answer is the cursor after them.
@@ -81,6 +48,8 @@ pub fn put_name(out: &mut [u8], at: usize, bytes: &[u8]) -> usize
     ensures { Put out.old at (bytes.now ++ (0 ∷ [])) out.new result }
 {
     let end = text_output::put_bytes(out, at, bytes);
-    store(out, end, 0);
+    if end < out.len() {
+        out[end] = 0;
+    }
     end + 1
 }

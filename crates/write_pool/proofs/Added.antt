@@ -207,11 +207,9 @@ module _ (p : List ℕ) (text : Text) (bucket offset : ℕ) (q : List ℕ) (x : 
 
 -- the code's three writes, as it made them: the entry's words, the count, the bucket's link
 module _ (p : List ℕ) (text : Text) (bucket offset : ℕ) (small : bucket < bucket_count) (room : entries_start + (entry_count p + 1) * entry_width ≤ length p) where
-  pub writes_remember : {q : List ℕ} {count : ℕ} → count ≡ get_or p 0 0
-      → q ≡ splice p (entries_start + count * entry_width) (entry_words text offset (get_or p (1 + bucket) 0))
+  pub writes_remember : {q : List ℕ} → q ≡ splice p (entries_start + get_or p 0 0 * entry_width) (entry_words text offset (get_or p (1 + bucket) 0))
       → Remembered p text bucket offset (set (set q 0 (get_or p 0 0 + 1)) (1 + bucket) (get_or p 0 0 + 1))
   unfolding with_head with_count with_entry entry_count
-  writes_remember counted entry-put =
-      let entry-there = entry-put ∙ ap (λ (n : ℕ). splice p (entries_start + n * entry_width) (entry_words text offset (get_or p (1 + bucket) 0))) counted in
-      subst (λ (l : List ℕ). Remembered p text bucket offset (set (set l 0 (get_or p 0 0 + 1)) (1 + bucket) (get_or p 0 0 + 1))) (sym entry-there)
+  writes_remember entry-put =
+      subst (λ (l : List ℕ). Remembered p text bucket offset (set (set l 0 (get_or p 0 0 + 1)) (1 + bucket) (get_or p 0 0 + 1))) (sym entry-put)
       (added_is_in_pool p text bucket offset (with_head p text bucket offset small room) (writes_add p text bucket offset small room) small room)

@@ -1,10 +1,11 @@
 -- Words of which the first 1,025 are 0 are a pool without entries: the count is 0, and so is every bucket's link.
-use mathlib.Core.Path.{◌≡◌, sym, ap, ap₂, subst, ◌∙◌}
+use mathlib.Core.Path.{◌≡◌, sym, ap, subst, ◌∙◌}
 use mathlib.Core.List.{List, ◌++◌}
-use Prim.Native.Nat.{ℕ, ◌+◌, ◌-◌, ◌<◌, min}
+use Prim.Native.Nat.{ℕ, ◌+◌, ◌<◌, min}
 use native.Mathlib.Omega.{arith}
 use native.Mathlib.Decide.{dec_lt}
-use lib.ListN.{length, get_or, take, drop, replicate, length-append, length-drop, length-replicate, get_or-replicate, get_or-append, get_or-eq_default}
+use lib.ListN.{length, get_or, take, drop, replicate, length-append, length-drop, length-replicate, get_or-replicate, get_or-append}
+use lib.ListN.{get_or-eq_default}
 use lib.Seq.{length-take-le}
 use Rattle.write_pool.specs.Pool.{entries_start, entries_below, entry_count, entries, newest, Begun}
 
@@ -24,7 +25,7 @@ emptied_is_begun before after same zeros =
     }
 
 -- the first words, as many of 1,025 as there are, set to 0
-module _ (p : List ℕ) (n : ℕ) (e : n ≡ min entries_start (length p)) where
+module _ (p : List ℕ) (n : ℕ) (e : n ≡ min (length p) entries_start) where
   pub length_emptied : length (replicate n 0 ++ drop n p) ≡ length p
   length_emptied = omega (arith, length-append (replicate n 0) (drop n p), length-replicate {A = ℕ} n 0, length-drop n p)
 
@@ -38,10 +39,8 @@ module _ (p : List ℕ) (n : ℕ) (e : n ≡ min entries_start (length p)) where
   pub emptied_begun : Begun p (replicate n 0 ++ drop n p)
   emptied_begun = emptied_is_begun p (replicate n 0 ++ drop n p) length_emptied emptied_words
 
-  -- the same, as a part that was cleared and put back
-  pub emptied_part_begun : (part : List ℕ) → part ≡ replicate (length (take (n - 0) p)) 0 → Begun p (part ++ drop (n - 0) p)
+  -- the same, as a part that was filled and put back
+  pub emptied_part_begun : (part : List ℕ) → part ≡ replicate (length (take n p)) 0 → Begun p (part ++ drop n p)
   emptied_part_begun part cleared =
-      let none : n - 0 ≡ n = omega arith in
-      let whole : length (take (n - 0) p) ≡ n = length-take-le (n - 0) p (omega arith) ∙ none in
-      let words : part ≡ replicate n 0 = cleared ∙ ap (λ (k : ℕ). replicate k 0) whole in
-      subst (λ (q : List ℕ). Begun p q) (sym (ap₂ ◌++◌ words (ap (λ (k : ℕ). drop k p) none))) emptied_begun
+      let words : part ≡ replicate n 0 = cleared ∙ ap (λ (k : ℕ). replicate k 0) (length-take-le n p (omega arith)) in
+      subst (λ (q : List ℕ). Begun p (q ++ drop n p)) (sym words) emptied_begun

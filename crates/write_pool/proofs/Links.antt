@@ -1,9 +1,9 @@
 -- A search by the links finds what a search of all entries finds: the entries that the links pass over lie in other buckets, and equal bytes have equal
 -- buckets.
+use Rattle.std.specs.Prelude.{Option, None, Some}
 use mathlib.Core.Path.{◌≡◌, refl, sym, ap, ◌∙◌}
 use mathlib.Core.Bool.{Bool, true, false}
 use mathlib.Core.List.{List}
-use mathlib.Core.Option.{Option, none, some}
 use Prim.Native.Nat.{ℕ, zero, suc, ◌+◌, ◌≤◌, ◌<◌}
 use native.Mathlib.Omega.{arith}
 use borrow.Author.Tests.{eqb-true, eqb-false}
@@ -86,7 +86,7 @@ module _ (chunk edits p : List ℕ) where
     unfolding find entries_below
     find_at_other i e = rw e
 
-    find_at_same : (i : ℕ) → same_bytes wanted (bytes_at i) ≡ true → found_below (suc i) ≡ some (entry_offset p i)
+    find_at_same : (i : ℕ) → same_bytes wanted (bytes_at i) ≡ true → found_below (suc i) ≡ Some (entry_offset p i)
     unfolding find entries_below
     find_at_same i e = rw e
 
@@ -100,7 +100,7 @@ module _ (chunk edits p : List ℕ) where
         by_bucket true e h = ap found_below (sym (newest_of_bucket (bucket_of wanted) i e))
         by_bucket false e h = find_at_other i (other_bucket_other_bytes i e) ∙ h ∙ ap found_below (sym (newest_of_other (bucket_of wanted) i e))
 
-    -- Where a search by the links stands: at an entry of the bucket or at none, and what is left to search answers the same.
+    -- Where a search by the links stands: at an entry of the bucket or at None, and what is left to search answers the same.
     pub record Searching (link : ℕ) : Type 0 where
       pub counted : link ≤ entry_count p
       pub of_bucket : newest_below link ≡ link
@@ -119,7 +119,7 @@ module _ (chunk edits p : List ℕ) where
 
     module _ (i : ℕ) {link : ℕ} (e : link ≡ suc i) (s : Searching link) where
       -- an entry with the same bytes is the answer
-      pub searching_ends : same_bytes wanted (bytes_at i) ≡ true → found_in (entries p) ≡ some (entry_offset p i)
+      pub searching_ends : same_bytes wanted (bytes_at i) ≡ true → found_in (entries p) ≡ Some (entry_offset p i)
       searching_ends same = s.same_answer ∙ ap found_below e ∙ find_at_same i same
 
       module _ (x : Indexed chunk edits p) where
@@ -141,6 +141,6 @@ module _ (chunk edits p : List ℕ) where
         }
 
     -- at no entry there is nothing left
-    pub searching_finds_none : {link : ℕ} → link ≡ 0 → Searching link → found_in (entries p) ≡ none
+    pub searching_finds_none : {link : ℕ} → link ≡ 0 → Searching link → found_in (entries p) ≡ None
     unfolding find entries_below
     searching_finds_none e s = s.same_answer ∙ ap found_below e

@@ -4,13 +4,10 @@
 -- entry's number and 1: it leads to the newest entry of a bucket, and from an entry to the next older one of its bucket. The links only make finding fast:
 -- what the pool holds is its entries.
 use Rattle.std.specs.Prelude.{Bool, true, false, ◌≡◌, List, [], ◌∷◌, ℕ, zero, suc, ◌+◌, ◌*◌, ◌/◌, ◌%◌, ◌<◌, ◌≤◌, eqb, length, get_or}
-use Rattle.std.proofs.Math.Option.{Option, none, some}
 use Rattle.words.specs.Words.{word_at}
 use Rattle.reflection.specs.declared.Text.{Text}
 use Rattle.tables.specs.Records.{text_at}
 use Rattle.reflection.specs.Texts.{text_bytes}
-use Rattle.write_pool.specs.declared.Pooled.{Pooled}
-use Rattle.write_pool.specs.declared.Pooled.TheVariants.{At, Absent}
 
 abbrev pub bucket_count : ℕ
 bucket_count = 1024
@@ -66,11 +63,6 @@ pub record Indexed (chunk edits p : List ℕ) : Type 0 where
   pub long : entries_start + entry_count p * entry_width ≤ length p
   pub heads : (b : ℕ) → b < bucket_count → get_or p (1 + b) 0 ≡ newest chunk edits p b (entry_count p)
   pub links : (i : ℕ) → i < entry_count p → entry_link p i ≡ newest chunk edits p (bucket_of (text_bytes chunk edits (entry_text p i))) i
-
--- What a search answers, as an option.
-abbrev pub pooled_at : Pooled → Option ℕ
-pooled_at (At offset) = some offset
-pooled_at Absent = none
 
 -- The words were made a pool without entries. They are as many as before, and in order whatever the chunk and the edits are.
 pub record Begun (before after : List ℕ) : Type 0 where

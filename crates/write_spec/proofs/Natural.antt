@@ -10,10 +10,12 @@ use Rattle.reflection.specs.Reflection.{TypeNumbers, TypeDesc, type_desc, Member
 use Rattle.reflection.specs.Reflection.{ResourceDef, is_sm5, is_wide, map_type, map_members, map_binding, map_variable, map_buffer, map_def}
 use Rattle.reflection.specs.Contents.{Bytes}
 use Rattle.write_spec.specs.Step.{Cell, byte, name_byte, default_byte, TextFacts, pools, WriteStep, add_type, cells_of}
-use Rattle.write_spec.specs.Records.{type_words_in_chunk, variable_words_in_chunk, variable_size, buffer_words_in_chunk, buffer_size, binding_words_in_chunk}
+use Rattle.write_spec.specs.Records.{type_words_in_chunk, variable_words_in_chunk, variable_size, buffer_words_in_chunk, buffer_size}
+use Rattle.write_spec.specs.Records.{binding_words_in_chunk}
 use Rattle.write_spec.specs.Records.{binding_size, header_words_in_chunk, rd11_words, header_word_count, BodyOffsets}
 use Rattle.write_spec.specs.Layout.{zip, name_cells, place_outer_name, place_inner_name, place_default, write_type, place_type, place_members}
-use Rattle.write_spec.specs.Layout.{place_variable, place_variables, place_section, place_sections, place_outer_names, place_buffer_parts, place_buffers}
+use Rattle.write_spec.specs.Layout.{place_variable, place_variables, place_section, place_sections, place_outer_names, place_buffer_parts}
+use Rattle.write_spec.specs.Layout.{place_buffers}
 use Rattle.write_spec.specs.Layout.{place_body, place_chunk, layout}
 use Rattle.write_spec.specs.Canonical.{bytes_facts, fill, canonical}
 use Rattle.write_spec.proofs.Cells.{map_cell}

@@ -1,9 +1,9 @@
 -- What one step does to names and defaults, and what it does to those that they stand for: the same result, with cells and pools mapped (`Natural`). It holds
 -- of every step that cells, lookups and pools are made of, since a lookup's test and a text's length are all that a step asks.
+use Rattle.std.specs.Prelude.{Option, None, Some}
 use mathlib.Core.Path.{◌≡◌, refl, ap, sym, ◌∙◌}
 use mathlib.Core.Bool.{Bool, true, false, ◌&&◌}
 use mathlib.Core.List.{List, [], ◌∷◌, ◌++◌, map, map-append}
-use mathlib.Core.Option.{Option, none, some}
 use Prim.Native.Nat.{ℕ, zero, suc, ◌+◌, ◌*◌}
 use lib.Dec.{eqb}
 use lib.ListN.{length, length-map, replicate}
@@ -187,8 +187,8 @@ module _ {N D M E : Type 0} (f : N → M) (g : D → E) where
   }
 
   found_natural : {m : WriteStep M E ℕ} {m' : WriteStep N D ℕ} (l : Option ℕ) → Natural m m' → Natural (found l m) (found l m')
-  found_natural none h = record { runs = h.runs }
-  found_natural (some o) h = record { runs = λ at ps. refl }
+  found_natural None h = record { runs = h.runs }
+  found_natural (Some o) h = record { runs = λ at ps. refl }
 
   pub once_natural : (b : Bool) (look : Pools M E → Option ℕ) (look' : Pools N D → Option ℕ) {m : WriteStep M E ℕ} {m' : WriteStep N D ℕ}
       → ((ps : Pools N D) → look (map_pools f g ps) ≡ look' ps) → Natural m m' → Natural (interned b look m) (interned b look' m')

@@ -1,8 +1,7 @@
 -- The canonical writer's whole answer, for any reflection, output and scratch (document 01, "Refusals" and "Room").
-use Rattle.std.specs.Prelude.{cond, ℕ, leb}
-use Rattle.std.proofs.Math.Option.{Option, none, some}
-use Rattle.reflection.specs.Refusals.{no_room, not_readable}
-use Rattle.reflection.specs.Outcome.{Outcome, ok, refused, because}
+use Rattle.reflection.specs.Outcome.{Outcome}
+use Rattle.reflection.specs.declared.refusal.Refusal.TheVariants.{NoRoom, NotReadable}
+use Rattle.std.specs.Prelude.{cond, ℕ, leb, Option, None, Some, Ok, Err}
 use Rattle.reflection.specs.Reflection.{ResourceDef}
 use Rattle.reflection.specs.Contents.{Bytes}
 use Rattle.readable.specs.Readable.{readable_contents}
@@ -15,9 +14,9 @@ scratch_size = 95360
 
 -- The canonical form of what the tables hold; 16 where they hold nothing or it is not readable.
 unfoldable pub canonical_or16 : Option (ResourceDef Bytes Bytes) → Outcome Bytes
-canonical_or16 none = refused (because not_readable)
-canonical_or16 (some r) = cond (readable_contents r) (ok (canonical r)) (refused (because not_readable))
+canonical_or16 None = Err NotReadable
+canonical_or16 (Some r) = cond (readable_contents r) (Ok (canonical r)) (Err NotReadable)
 
 -- What is written, with so many words of scratch and so many bytes of output: 15 for short scratch, 16, 17, or the canonical form.
 unfoldable pub write : ℕ → ℕ → Option (ResourceDef Bytes Bytes) → Outcome Bytes
-write scratch room r = cond (leb scratch_size scratch) (fitting room (canonical_or16 r)) (refused (because no_room))
+write scratch room r = cond (leb scratch_size scratch) (fitting room (canonical_or16 r)) (Err NoRoom)

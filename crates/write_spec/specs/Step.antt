@@ -1,7 +1,6 @@
 -- A step of canonical writing. It sees a reflection's numbers, the lengths of its names and defaults, and which of them are equal, and nothing else of
 -- them: what it appends are cells, and the bytes are filled in at the end. N is what stands for a name, D for a default.
-use Rattle.std.specs.Prelude.{Bool, true, false, List, [], ◌∷◌, ◌++◌, map, ℕ, zero, suc, ◌+◌, ◌*◌, ◌-◌, ◌%◌, length, replicate}
-use Rattle.std.proofs.Math.Option.{Option, none, some}
+use Rattle.std.specs.Prelude.{Bool, true, false, List, [], ◌∷◌, ◌++◌, map, ℕ, zero, suc, ◌+◌, ◌*◌, ◌-◌, ◌%◌, length, replicate, Option, None, Some}
 use Rattle.words.specs.Words.{word_bytes}
 use Rattle.reflection.specs.Reflection.{TypeDesc}
 
@@ -78,16 +77,16 @@ reserve n words m at ps =
 
 -- The offset of the first entry that passes the test.
 abbrev pub hit : Bool → ℕ → Option ℕ → Option ℕ
-hit true offset others = some offset
+hit true offset others = Some offset
 hit false offset others = others
 
 unfoldable pub find : {K : Type 0} → (K → Bool) → List (K × ℕ) → Option ℕ
-find test [] = none
+find test [] = None
 find test (e ∷ es) = hit (test e.0) e.1 (find test es)
 
 abbrev pub found : {N D : Type 0} → Option ℕ → WriteStep N D ℕ → WriteStep N D ℕ
-found none m at ps = m at ps
-found (some offset) m at ps = record { result = offset; cells = []; pools_after = ps }
+found None m at ps = m at ps
+found (Some offset) m at ps = record { result = offset; cells = []; pools_after = ps }
 
 -- The offset that a pool has, or else a fresh one. Where nothing is shared, always a fresh one.
 unfoldable pub interned : {N D : Type 0} → Bool → (Pools N D → Option ℕ) → WriteStep N D ℕ → WriteStep N D ℕ

@@ -3,13 +3,12 @@
 use mathlib.Core.Path.{◌≡◌, refl, ap, sym, ◌∙◌, subst}
 use mathlib.Core.Bool.{Bool, true}
 use mathlib.Core.List.{List, [], ◌∷◌, map}
-use mathlib.Core.Logic.{◌⊎◌, ⊎_elim}
+use mathlib.Core.Logic.{◌⊎◌}
 use Prim.Native.Nat.{ℕ, ◌+◌, ◌*◌, ◌≤◌}
 use native.Mathlib.Nat.{zero-add, mul-one, mul-le-mul_left}
 use native.Mathlib.Omega.{arith}
 use lib.ListN.{length, get_or, replicate, length-map}
 use Rattle.words.specs.Splice.{Put}
-use Rattle.words.proofs.Splice.{put_length}
 use Rattle.reflection.specs.declared.Text.{Text}
 use Rattle.reflection.specs.declared.ResourceDef.{ResourceDef as Header}
 use Rattle.reflection.specs.Reflection.{ResourceBinding, ResourceDef, Rd11, is_sm5, is_wide}
@@ -180,8 +179,3 @@ module _ {h : Header} {buffers types : List ℕ} {chunk edits s s₀ : List ℕ}
         written = subst (λ bytes. Put out 0 bytes out₆ end ⊎ TooLong bytes out out₆ end) is_canonical laid_out;
         long = created.kept.long ∙ placed.long ∙ named.same.long ∙ begun.long;
       }
-
--- The output keeps its length.
-pub chunk_long : {chunk edits : List ℕ} {h : Header} {bindings buffers variables types s s' out out' : List ℕ} {r : ℕ} → ChunkWritten chunk edits h
-    bindings buffers variables types s s' out out' r → length out' ≡ length out
-chunk_long w = ⊎_elim (λ p. put_length p) (λ p. p.long) w.written

@@ -6,7 +6,8 @@ use native.Mathlib.Omega.{arith}
 use lib.ListN.{length, take, drop}
 use Rattle.write_spec.specs.Step.{pools}
 use Rattle.write_pool.specs.Pool.{Indexed, entries, entry_count, entries_start, Begun}
-use Rattle.write_texts.specs.Scratch.{inner_start, defaults_start, root_types_start, scratch_size, region, outer_pool, inner_pool, default_pool, types_from, pools_in}
+use Rattle.write_texts.specs.Scratch.{inner_start, defaults_start, root_types_start, scratch_size, region, outer_pool, inner_pool, default_pool}
+use Rattle.write_texts.specs.Scratch.{types_from, pools_in}
 use Rattle.write_texts.specs.PlacedInScratch.{Kept}
 use Rattle.write_texts.proofs.Regions.{length_region, lent_kept, lent_region}
 use Rattle.write_texts.proofs.ScratchPools.{outer_kept_before, inner_kept_before}

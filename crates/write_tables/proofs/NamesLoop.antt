@@ -14,8 +14,8 @@ use Rattle.write_pool.specs.Pool.{entry_count}
 use Rattle.write_texts.specs.declared.Placement.{Placement}
 use Rattle.write_texts.specs.Simulates.{text_facts}
 use Rattle.write_texts.specs.Scratch.{inner_start, scratch_size, outer_pool, PoolsReady}
-use Rattle.write_texts.specs.PlacedInPool.{farthest_offset, placed_limit}
-use Rattle.write_texts.specs.PlacedInScratch.{outer_room, Kept, TextPlaced}
+use Rattle.write_texts.specs.PlacedInPool.{placed_limit}
+use Rattle.write_texts.specs.PlacedInScratch.{Kept, TextPlaced}
 use Rattle.write_texts.proofs.ScratchPools.{ready_kept, outer_kept_before}
 use Rattle.write_tables.specs.Placed.{pools_sharing, Same, name_at, stored_at, NamesReady, NamesPlaced}
 use Rattle.tables.proofs.RecordLists.{records_more, records_left, records_done}
@@ -75,13 +75,10 @@ module _ {chunk edits : List ℕ} {width count start step at₀ : ℕ} {s₀ : L
   -- There is room for one more.
   module _ {names : ℕ → Text} {out₀ s out : List ℕ} {at i : ℕ}
       (inv : NamesSoFar chunk edits names count start step at₀ s₀ out₀ s out at i) (more : i < count) where
-    pub name_room : (entry_count (outer_pool s) < outer_room) × (at ≤ farthest_offset)
-    name_room = omega (arith, inv.entries, inv.near, ready.entries, ready.output, more)
-
-    pub offset_below : start + i * step < scratch_size
+    offset_below : start + i * step < scratch_size
     offset_below = omega (arith, mul-le-mul_right step (let h : i + 1 ≤ count = omega arith in h), ready.apart, ready.inside)
 
-    pub offset_inside : start + i * step < length s
+    offset_inside : start + i * step < length s
     offset_inside = omega (arith, offset_below, inv.ready.long)
 
     pub names_more : {s₁ out₁ : List ℕ} {spot : Placement} {name : Text} → name ≡ names i

@@ -20,7 +20,8 @@ use Rattle.write_pool.specs.Pool.{entry_count}
 use Rattle.write_texts.specs.declared.Placement.{Placement}
 use Rattle.write_texts.specs.declared.WriteCursor.{WriteCursor}
 use Rattle.write_texts.specs.Simulates.{Simulates, text_facts}
-use Rattle.write_texts.specs.Scratch.{variable_offsets_width, inner_start, defaults_start, root_types_start, records_start, variables_start, inner_pool}
+use Rattle.write_texts.specs.Scratch.{variable_offsets_width, inner_start, defaults_start, root_types_start, records_start, variables_start}
+use Rattle.write_texts.specs.Scratch.{inner_pool}
 use Rattle.write_texts.specs.Scratch.{default_pool}
 use Rattle.write_texts.specs.PlacedInScratch.{inner_room, default_room, Kept, TextPlaced}
 use Rattle.write_texts.specs.PlacedInPool.{farthest_offset}

@@ -16,7 +16,8 @@ use Rattle.reflection.specs.Limits.{variable_room, type_room}
 use Rattle.write_spec.specs.Step.{Pools, WriteStep}
 use Rattle.write_texts.specs.declared.Placement.{Placement}
 use Rattle.write_texts.specs.Simulates.{Simulates}
-use Rattle.write_texts.specs.Scratch.{inner_start, defaults_start, root_types_start, records_start, scratch_size, inner_pool, default_pool, types_from}
+use Rattle.write_texts.specs.Scratch.{inner_start, defaults_start, root_types_start, records_start, scratch_size, inner_pool, default_pool}
+use Rattle.write_texts.specs.Scratch.{types_from}
 use Rattle.write_texts.specs.Scratch.{pools_in, PoolsReady}
 use Rattle.write_texts.specs.PlacedInScratch.{Kept, TextPlaced}
 use Rattle.write_texts.proofs.Regions.{region_agree, types_kept_before, types_kept_after}

@@ -51,10 +51,6 @@ module _ {row : ℕ → List ℕ} {first count at : ℕ} {out₀ out : List ℕ}
           ap (λ (k : ℕ). joined_bytes (rows_from row first k)) (add-one i) ∙ ap joined_bytes (rows_snoc row first i)
           ∙ joined_append (rows_from row first i) (row (first + i)) ∙ ap (λ (k : ℕ). joined_bytes (rows_from row first i) ++ joined_bytes (row k)) (sym is)
 
-  pub rows_all : count ≤ i → Put out₀ at (joined_bytes (rows_from row first count)) out to
-  rows_all all =
-      subst (λ k. Put out₀ at (joined_bytes (rows_from row first k)) out to) (let e : i ≡ count = omega (arith, inv.within) in e) inv.put
-
   -- How far the cursor then is.
   pub rows_near : {size : ℕ} → ((j : ℕ) → length (row j) ≤ size) → to ≤ at + 4 * (i * size)
   rows_near {size} short = omega (arith, inv.put.next, length_joined (rows_from row first i), short_rows row size first i short)

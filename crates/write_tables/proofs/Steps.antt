@@ -13,9 +13,11 @@ use Rattle.reflection.specs.declared.Text.{Text}
 use Rattle.reflection.specs.Reflection.{CBufferVariable, CBufferDef, ResourceDef, is_sm5, is_wide}
 use Rattle.reflection.specs.Strides.{buffer_stride}
 use Rattle.write_spec.specs.Step.{Pools, pools, padding_at}
-use Rattle.write_spec.specs.Records.{VariableOffsets, Section, rows, variable_words_in_chunk, variable_size, buffer_words_in_chunk, binding_words_in_chunk}
+use Rattle.write_spec.specs.Records.{VariableOffsets, Section, rows, variable_words_in_chunk, variable_size, buffer_words_in_chunk}
+use Rattle.write_spec.specs.Records.{binding_words_in_chunk}
 use Rattle.write_spec.specs.Records.{binding_size, header_words_in_chunk, header_word_count}
-use Rattle.write_spec.specs.Layout.{zip, place_outer_name, place_inner_name, place_default, place_type, place_variable, place_variables, place_section}
+use Rattle.write_spec.specs.Layout.{zip, place_outer_name, place_inner_name, place_default, place_type, place_variable, place_variables}
+use Rattle.write_spec.specs.Layout.{place_section}
 use Rattle.write_spec.specs.Layout.{place_sections, place_outer_names, place_buffer_parts, place_buffers, place_body, place_chunk, layout}
 use Rattle.write_spec.proofs.Sizes.{rows_length, variable_words_length, buffer_words_length, binding_words_length, header_words_length}
 use Rattle.write_spec.proofs.Sizes.{variables_length, outer_names_length, buffer_parts_length}

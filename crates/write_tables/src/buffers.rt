@@ -31,8 +31,7 @@ fn variable_size(sm5: bool) -> usize
 fn count_at(buffers: &[u32], buffer: usize) -> usize
     ensures { result ≡ count_at buffers.now buffer }
 {
-    let fields = tables::buffer_at(buffers, buffer);
-    fields.variable_count as usize
+    tables::buffer_at(buffers, buffer).variable_count as usize
 }
 
 // Places the section of a buffer: padding, the records of its variables, the first of which is `variable`, and what they point to.
@@ -56,8 +55,10 @@ fn place_section<'a>(
     let fields = tables::buffer_at(buffers, buffer);
     let count = count_at(buffers, buffer);
     let start = write_texts::put_padding(out, cursor.at);
-    let mut behind = cursor;
-    behind.at = start + 4 * (count * variable_size(sm5));
+    let behind = WriteCursor {
+        at: start + 4 * (count * variable_size(sm5)),
+        ..cursor
+    };
     let reached = place_variables(
         chunk,
         edits,
@@ -71,7 +72,7 @@ fn place_section<'a>(
         fields.cb_type == 0,
         sm5,
     );
-    put_variable_records(variables, &scratch[..], out, start, variable, count, sm5);
+    put_variable_records(variables, scratch, out, start, variable, count, sm5);
     scratch[BUFFERS_START + buffer * BUFFER_OFFSETS + 1] = start as u32;
     reached
 }
@@ -94,19 +95,17 @@ fn place_sections<'a>(
         count at scratch.old scratch.new out.old out.new result }
 {
     let mut cursor = WriteCursor {
-        at: at,
+        at,
         node: 0,
         member_types: 0,
         root_types: 0,
     };
     let mut variable = 0;
-    let mut buffer = 0;
-    while buffer < count {
+    for buffer in 0..count {
         cursor = place_section(
             chunk, edits, buffers, variables, types, scratch, out, cursor, buffer, variable, sm5,
         );
         variable += count_at(buffers, buffer);
-        buffer += 1;
     }
     cursor
 }
@@ -130,7 +129,7 @@ pub fn place_buffers<'a>(
         count at scratch.old scratch.new out.old out.new result }
 {
     if count == 0 {
-        return Placement { offset: 0, at: at };
+        return Placement { offset: 0, at };
     }
     let records = write_texts::put_padding(out, at);
     let named = place_outer_names(
@@ -148,7 +147,7 @@ pub fn place_buffers<'a>(
     let reached = place_sections(
         chunk, edits, buffers, variables, types, scratch, out, named, count, sm5,
     );
-    put_buffer_records(buffers, &scratch[..], out, records, count);
+    put_buffer_records(buffers, scratch, out, records, count);
     Placement {
         offset: records as u32,
         at: reached.at,

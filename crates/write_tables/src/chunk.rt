@@ -83,7 +83,7 @@ pub fn write_chunk<'a>(
         out,
         start + 4 * (count * binding_size(wide)),
     );
-    put_binding_records(bindings, &scratch[..], out, start, count, wide);
+    put_binding_records(bindings, scratch, out, start, count, wide);
     let placed = place_buffers(
         chunk,
         edits,
@@ -96,10 +96,8 @@ pub fn write_chunk<'a>(
         def.buffer_count as usize,
         sm5,
     );
-    let records = placed.offset;
     let creator = write_texts::place_inner_name(chunk, edits, def.creator, scratch, out, placed.at);
-    let creator_offset = creator.offset;
     let end = write_texts::put_padding(out, creator.at);
-    put_header(def, records, creator_offset, sm5, out);
+    put_header(def, placed.offset, creator.offset, sm5, out);
     end
 }

@@ -4,7 +4,9 @@ ghost use Rattle.write_tables.specs.Placed.{name_at, NamesReady, NamesPlaced};
 
 use reflection::Text;
 
-// The name that record i of a table begins with; an empty one where the record does not lie whole in the table.
+// The name that record i of a table begins with; an empty one where the record does not lie whole in the table: the name of the
+// record of zeros which stands for one outside the table (docs/DECISIONS.md).
+#[tactic(auto, using(tables::proofs::Records::record_inside))]
 fn outer_name(table: &[u32], width: usize, i: usize) -> Text
     requires { 3 ≤ width }
     ensures { result ≡ name_at width table.now i }
@@ -38,13 +40,11 @@ pub fn place_outer_names<'a>(
         at scratch.old scratch.new out.old out.new result }
 {
     let mut to = at;
-    let mut i = 0;
-    while i < count {
+    for i in 0..count {
         let name = outer_name(table, width, i);
         let spot = write_texts::place_outer_name(chunk, edits, name, scratch, out, to);
         scratch[start + i * step] = spot.offset;
         to = spot.at;
-        i += 1;
     }
     to
 }

@@ -71,10 +71,8 @@ pub fn put_variable_records(
         (joined_bytes (rows_from (variable_row sm5 variables.now scratch.now) variable count)) out.new result }
 {
     let mut to = at;
-    let mut i = 0;
-    while i < count {
+    for i in 0..count {
         to = put_variable_record(variables, scratch, out, to, variable + i, sm5);
-        i += 1;
     }
     to
 }
@@ -118,10 +116,8 @@ pub fn put_buffer_records(
         (joined_bytes (rows_from (buffer_row buffers.now scratch.now) 0 count)) out.new result }
 {
     let mut to = at;
-    let mut i = 0;
-    while i < count {
+    for i in 0..count {
         to = put_buffer_record(buffers, scratch, out, to, i);
-        i += 1;
     }
     to
 }
@@ -184,10 +180,8 @@ pub fn put_binding_records(
         (joined_bytes (rows_from (binding_row wide bindings.now scratch.now) 0 count)) out.new result }
 {
     let mut to = at;
-    let mut i = 0;
-    while i < count {
+    for i in 0..count {
         to = put_binding_record(bindings, scratch, out, to, i, wide);
-        i += 1;
     }
     to
 }

@@ -22,28 +22,29 @@ fn place_variable<'a>(
 {
     let fields = tables::variable_at(variables, variable);
     let name = write_texts::place_inner_name(chunk, edits, fields.name, scratch, out, cursor.at);
-    let name_offset = name.offset;
-    let mut reached = cursor;
-    reached.at = name.at;
-    let kind = write_types::place_root_type(chunk, edits, types, scratch, out, reached, share, sm5);
-    let type_offset = kind.offset;
-    let mut after = kind.cursor;
+    let named = WriteCursor {
+        at: name.at,
+        ..cursor
+    };
+    let kind = write_types::place_root_type(chunk, edits, types, scratch, out, named, share, sm5);
     let default = write_texts::place_default(
         chunk,
         edits,
         fields.default_value,
         scratch,
         out,
-        after.at,
+        kind.cursor.at,
     );
-    let offsets = [name_offset, type_offset, default.offset];
-    words::put_words(
+    let offsets = [name.offset, kind.offset, default.offset];
+    words::overwrite(
         scratch,
         VARIABLES_START + variable * VARIABLE_OFFSETS,
         &offsets,
     );
-    after.at = default.at;
-    after
+    WriteCursor {
+        at: default.at,
+        ..kind.cursor
+    }
 }
 
 // Places `count` variables from `variable` on, whose types begin at the cursor's node.
@@ -65,8 +66,7 @@ pub fn place_variables<'a>(
         cursor scratch.old scratch.new out.old out.new result }
 {
     let mut reached = cursor;
-    let mut placed = 0;
-    while placed < count {
+    for placed in 0..count {
         reached = place_variable(
             chunk,
             edits,
@@ -79,7 +79,6 @@ pub fn place_variables<'a>(
             share,
             sm5,
         );
-        placed += 1;
     }
     reached
 }

@@ -1,9 +1,9 @@
 -- A text is placed interned: where its pool has an equal one its offset is that one's and nothing changes; else its bytes are written at the cursor and its
 -- pool has one entry more. A step sees a pool's entries only through the search, so one law serves every pool of texts, and names and defaults.
+use Rattle.std.specs.Prelude.{Option, Some, None}
 use mathlib.Core.Path.{◌≡◌, refl, ap, sym, ◌∙◌, subst}
 use mathlib.Core.Bool.{Bool, true, false}
 use mathlib.Core.List.{List, [], ◌∷◌, ◌++◌}
-use mathlib.Core.Option.{Option}
 use Prim.Native.Nat.{ℕ, ◌+◌, ◌≤◌}
 use native.Mathlib.Omega.{arith}
 use lib.Dec.{eqb}
@@ -19,11 +19,10 @@ use Rattle.write_spec.specs.Step.{Pools, WriteStep, padding_at, find, interned, 
 use Rattle.write_spec.specs.Layout.{name_cells}
 use Rattle.write_spec.specs.Canonical.{bytes_facts}
 use Rattle.write_spec.specs.Through.{through}
-use Rattle.write_pool.specs.declared.Pooled.{Pooled}
-use Rattle.write_pool.specs.declared.Pooled.TheVariants.{At, Absent}
-use Rattle.write_pool.specs.Pool.{Indexed, entries, bucket_of, pooled_at, Remembered}
+use Rattle.write_pool.specs.Pool.{Indexed, entries, bucket_of, Remembered}
 use Rattle.write_texts.specs.Simulates.{Simulates, text_facts}
-use Rattle.write_texts.specs.PlacedInPool.{SourcesFit, HasRoom, Grown, placed_limit, write_name, write_default, place_name, place_default_text, PlacedInPool}
+use Rattle.write_texts.specs.PlacedInPool.{SourcesFit, HasRoom, Grown, placed_limit, write_name, write_default, place_name, place_default_text}
+use Rattle.write_texts.specs.PlacedInPool.{PlacedInPool}
 use Rattle.write_texts.specs.PlacedInPool.{TextPool, outer_names, inner_names, default_texts, entries_of, with_entries, add_text}
 use Rattle.write_texts.specs.declared.Placement.{Placement}
 use Rattle.write_texts.proofs.CellBytes.{cell_bytes_name, cell_bytes_default}
@@ -66,11 +65,11 @@ module _ (chunk edits : List ℕ) where
   search text es = find (λ t. same_bytes (text_bytes chunk edits text) (text_bytes chunk edits t)) es
 
   -- the search that the code made, in a pool's words
-  pub record Looked (text : Text) (pool wanted : List ℕ) (looked : Pooled) : Type 0 where
+  pub record Looked (text : Text) (pool wanted : List ℕ) (looked : Option ℕ) : Type 0 where
     pub wanted-is : wanted ≡ text_bytes chunk edits text
-    pub looked_is : pooled_at looked ≡ find (λ t. same_bytes wanted (text_bytes chunk edits t)) (entries pool)
+    pub looked_is : looked ≡ find (λ t. same_bytes wanted (text_bytes chunk edits t)) (entries pool)
 
-  look_is : {text : Text} {pool wanted : List ℕ} {looked : Pooled} → Looked text pool wanted looked → search text (entries pool) ≡ pooled_at looked
+  look_is : {text : Text} {pool wanted : List ℕ} {looked : Option ℕ} → Looked text pool wanted looked → search text (entries pool) ≡ looked
   look_is {text} {pool} l = ap (λ (w : List ℕ). find (λ t. same_bytes w (text_bytes chunk edits t)) (entries pool)) (sym l.wanted-is) ∙ sym l.looked_is
 
   -- a pool that was not touched, and one that has one entry more
@@ -91,19 +90,19 @@ module _ (chunk edits : List ℕ) where
     abbrev looked_up : TextPool → WriteStep Text Text ℕ
     looked_up texts = interned true (λ ps. search text (entries_of texts ps)) (write (add_text texts text))
 
-    module _ {at : ℕ} {pool out wanted : List ℕ} {looked : Pooled} (open-pool : HasRoom chunk edits pool) (l : Looked text pool wanted looked) where
-      text_found : {offset : ℕ} → looked ≡ At offset → PlacedInPool chunk edits looked_up at pool pool out out (record { offset = offset; at = at })
+    module _ {at : ℕ} {pool out wanted : List ℕ} {looked : Option ℕ} (open-pool : HasRoom chunk edits pool) (l : Looked text pool wanted looked) where
+      text_found : {offset : ℕ} → looked ≡ Some offset → PlacedInPool chunk edits looked_up at pool pool out out (record { offset = offset; at = at })
       text_found {offset} known = record {
         ran = λ texts ps e.
             ran_like chunk edits refl (with_own texts ps ∙ ap (λ (es : List (Text × ℕ)). with_entries texts es ps) e) refl
             (simulates_interned_found chunk edits (λ qs. search text (entries_of texts qs)) (write (add_text texts text)) offset at ps out
-            (ap (search text) e ∙ look_is l ∙ ap pooled_at known));
+            (ap (search text) e ∙ look_is l ∙ known));
         pool_grown = grown_none pool open-pool.indexed;
         near_low = omega arith;
         near_high = omega arith;
       }
 
-      text_fresh : {pool' out' : List ℕ} {offset to bucket : ℕ} → looked ≡ Absent → bucket ≡ bucket_of wanted → Remembered pool text bucket offset pool'
+      text_fresh : {pool' out' : List ℕ} {offset to bucket : ℕ} → looked ≡ None → bucket ≡ bucket_of wanted → Remembered pool text bucket offset pool'
           → at ≤ to → to ≤ at + placed_limit
           → ((add : ℕ → Pools Text Text → Pools Text Text) (ps : Pools Text Text) → Simulates chunk edits (write add) at ps out out' offset to (add offset ps))
           → PlacedInPool chunk edits looked_up at pool pool' out out' (record { offset = offset; at = to })
@@ -111,7 +110,7 @@ module _ (chunk edits : List ℕ) where
         ran = λ texts ps e.
             let one_more = ap (λ (es : List (Text × ℕ)). (text, offset) ∷ es) e ∙ sym remembered.one_entry_more in
             ran_like chunk edits refl (ap (λ (es : List (Text × ℕ)). with_entries texts es ps) one_more) refl
-            (simulates_interned_fresh chunk edits (λ qs. search text (entries_of texts qs)) (ap (search text) e ∙ look_is l ∙ ap pooled_at absent)
+            (simulates_interned_fresh chunk edits (λ qs. search text (entries_of texts qs)) (ap (search text) e ∙ look_is l ∙ absent)
             (written (add_text texts text) ps));
         pool_grown = grown_one open-pool.indexed (bucket-is ∙ ap bucket_of l.wanted-is) remembered;
         near_low = low;
@@ -129,13 +128,13 @@ module _ (chunk edits : List ℕ) where
   }
 
   -- names
-  module _ (name : Text) {at : ℕ} {pool out wanted : List ℕ} {looked : Pooled} (open-pool : HasRoom chunk edits pool) (l : Looked name pool wanted looked) where
-    pub name_found : {offset : ℕ} → looked ≡ At offset
+  module _ (name : Text) {at : ℕ} {pool out wanted : List ℕ} {looked : Option ℕ} (open-pool : HasRoom chunk edits pool) (l : Looked name pool wanted looked) where
+    pub name_found : {offset : ℕ} → looked ≡ Some offset
         → PlacedInPool chunk edits (place_name (text_facts chunk edits) name) at pool pool out out (record { offset = offset; at = at })
     unfolding text_facts through bytes_facts
     name_found known = text_found name (write_name (text_facts chunk edits) name) open-pool l known
 
-    pub name_fresh : {pool' out' : List ℕ} {to bucket : ℕ} → looked ≡ Absent → SourcesFit chunk edits → bucket ≡ bucket_of wanted
+    pub name_fresh : {pool' out' : List ℕ} {to bucket : ℕ} → looked ≡ None → SourcesFit chunk edits → bucket ≡ bucket_of wanted
         → Put out at (wanted ++ (0 ∷ [])) out' to → Remembered pool name bucket at pool'
         → PlacedInPool chunk edits (place_name (text_facts chunk edits) name) at pool pool' out out' (record { offset = at; at = to })
     unfolding text_facts through bytes_facts
@@ -148,7 +147,7 @@ module _ (chunk edits : List ℕ) where
         (simulates_add_to_pool chunk edits add at to ps out'))
 
   -- defaults
-  not_empty : {default : Text} {pool wanted : List ℕ} {looked : Pooled} → Looked default pool wanted looked → (length wanted ≡ 0 → ⊥)
+  not_empty : {default : Text} {pool wanted : List ℕ} {looked : Option ℕ} → Looked default pool wanted looked → (length wanted ≡ 0 → ⊥)
       → length (text_bytes chunk edits default) ≡ 0 → ⊥
   not_empty l some-there e = some-there (ap length l.wanted-is ∙ e)
 
@@ -165,13 +164,13 @@ module _ (chunk edits : List ℕ) where
       near_high = omega arith;
     }
 
-    module _ {looked : Pooled} (l : Looked default pool wanted looked) (some-there : length wanted ≡ 0 → ⊥) where
-      pub default_found : {offset : ℕ} → looked ≡ At offset
+    module _ {looked : Option ℕ} (l : Looked default pool wanted looked) (some-there : length wanted ≡ 0 → ⊥) where
+      pub default_found : {offset : ℕ} → looked ≡ Some offset
           → PlacedInPool chunk edits (place_default_text (text_facts chunk edits) default) at pool pool out out (record { offset = offset; at = at })
       unfolding text_facts through bytes_facts
       default_found known = placed_unless_empty (not_empty l some-there) (text_found default (write_default (text_facts chunk edits) default) open-pool l known)
 
-      pub default_fresh : {pool' out₁ out₂ : List ℕ} {start to bucket : ℕ} → looked ≡ Absent → SourcesFit chunk edits → bucket ≡ bucket_of wanted
+      pub default_fresh : {pool' out₁ out₂ : List ℕ} {start to bucket : ℕ} → looked ≡ None → SourcesFit chunk edits → bucket ≡ bucket_of wanted
           → Put out at (replicate (padding_at at) 0xab) out₁ start → Put out₁ start wanted out₂ to → Remembered pool default bucket start pool'
           → PlacedInPool chunk edits (place_default_text (text_facts chunk edits) default) at pool pool' out out₂ (record { offset = start; at = to })
       unfolding text_facts through bytes_facts

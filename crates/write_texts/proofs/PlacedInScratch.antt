@@ -9,13 +9,12 @@ use Rattle.reflection.specs.declared.Text.{Text}
 use Rattle.reflection.specs.Reflection.{TypeDesc}
 use Rattle.write_spec.specs.Step.{WriteStep}
 use Rattle.write_pool.specs.Pool.{Indexed, entries, entry_count}
-use Rattle.write_texts.specs.Simulates.{chunk_limit}
 use Rattle.write_texts.specs.PlacedInPool.{HasRoom, TextPool, outer_names, inner_names, default_texts, entries_of, with_entries, PlacedInPool}
 use Rattle.write_texts.specs.Scratch.{outer_pool, inner_pool, default_pool, scratch_size, pools_in, PoolsReady}
 use Rattle.write_texts.specs.PlacedInScratch.{pool_room, start_of, end_of, words_of, Kept, TextPlaced}
 use Rattle.write_texts.specs.declared.Placement.{Placement}
-use Rattle.write_texts.proofs.Runs.{ran_like, ran_past}
-use Rattle.write_texts.proofs.Regions.{length_region, kept_same, lent_kept, lent_region}
+use Rattle.write_texts.proofs.Runs.{ran_like}
+use Rattle.write_texts.proofs.Regions.{length_region, lent_kept, lent_region}
 use Rattle.write_texts.proofs.ScratchPools.{ready_with, pools_with}
 
 -- where the regions lie
@@ -56,19 +55,6 @@ module _ {chunk edits s : List ℕ} (ready : PoolsReady chunk edits s) where
     indexed = indexed_words texts;
     room = omega (arith, length_words texts, h);
     short = omega (arith, length_words texts, in_scratch texts);
-  }
-
-  -- past the limit nothing is placed
-  pub placed_past : {step : WriteStep Text Text ℕ} {at : ℕ} {pool : List ℕ → List ℕ} {from to : ℕ} {out : List ℕ} → chunk_limit < at
-      → TextPlaced chunk edits step at pool from to s s out out (record { offset = 0; at = at })
-  placed_past {step} {at} {pool} {from} {to} past = record {
-    ran = λ types tree base n. ran_past chunk edits step (pools_in s types tree base n) past (omega arith) refl;
-    ready = ready;
-    kept = kept_same from to s;
-    count_low = omega arith;
-    count_high = omega arith;
-    near_low = omega arith;
-    near_high = omega arith;
   }
 
   -- the pool's region was lent, came back as p, and a text was placed with it

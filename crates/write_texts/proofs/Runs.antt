@@ -1,10 +1,10 @@
 -- Runs of steps: what the code did in turn is a run of the step that the definition puts together, one law for each way of putting steps together. A run's
 -- bytes follow those of the run before it, since the cursor moves by as many bytes as there are cells.
+use Rattle.std.specs.Prelude.{Option, None, Some}
 use mathlib.Core.Path.{◌≡◌, refl, ap, sym, ◌∙◌, subst}
 use mathlib.Core.Bool.{Bool, true, false}
 use mathlib.Core.List.{List, [], ◌++◌}
 use mathlib.Core.Logic.{◌⊎◌, inl, inr, ⊎_elim}
-use mathlib.Core.Option.{Option, none, some}
 use Prim.Native.Nat.{ℕ, zero, suc, ◌+◌, ◌<◌, ◌≤◌}
 use native.Mathlib.Omega.{arith}
 use lib.ListN.{length, replicate, length-replicate, length-append}
@@ -12,7 +12,8 @@ use Rattle.words.specs.Splice.{Put}
 use Rattle.words.proofs.Splice.{put_none, put_then, put_length}
 use Rattle.reflection.specs.declared.Text.{Text}
 use Rattle.write_spec.specs.Step.{Cell, Pools, Placed, WriteStep, ◌>>=◌, return}
-use Rattle.write_spec.specs.Step.{append, add_to_pool, pad, padding_at, word_cells, found, interned, add_to_pool_if, unless_empty, in_member_pool, enter_member}
+use Rattle.write_spec.specs.Step.{append, add_to_pool, pad, padding_at, word_cells, found, interned, add_to_pool_if, unless_empty, in_member_pool}
+use Rattle.write_spec.specs.Step.{enter_member}
 use Rattle.write_spec.specs.Step.{leave_member}
 use Rattle.write_texts.specs.Simulates.{InStep, PastLimit, Simulates, chunk_limit, cell_bytes}
 use Rattle.write_bytes.specs.Bytes.{joined_bytes}
@@ -158,26 +159,26 @@ module _ (chunk edits : List ℕ) where
   ran_unless_empty (suc n) h p = p
 
   -- what a pool has, and what it has not
-  ran_found : (looked : Option ℕ) (m : WriteStep Text Text ℕ) (offset at : ℕ) (ps : Pools Text Text) (out : List ℕ) → looked ≡ some offset
+  ran_found : (looked : Option ℕ) (m : WriteStep Text Text ℕ) (offset at : ℕ) (ps : Pools Text Text) (out : List ℕ) → looked ≡ Some offset
       → Simulates chunk edits (found looked m) at ps out out offset at ps
   ran_found looked m offset at ps out e =
       subst (λ x. Simulates chunk edits (found x m) at ps out out offset at ps) (sym e)
       (exactly (record { answered = refl; put = put_no_cells out at; pools_left = refl }))
 
-  ran_absent : (looked : Option ℕ) {m : WriteStep Text Text ℕ} {at to offset : ℕ} {ps ps' : Pools Text Text} {out out' : List ℕ} → looked ≡ none
+  ran_absent : (looked : Option ℕ) {m : WriteStep Text Text ℕ} {at to offset : ℕ} {ps ps' : Pools Text Text} {out out' : List ℕ} → looked ≡ None
       → Simulates chunk edits m at ps out out' offset to ps' → Simulates chunk edits (found looked m) at ps out out' offset to ps'
   ran_absent looked {m} {at} {to} {offset} {ps} {ps'} {out} {out'} e p =
       subst (λ x. Simulates chunk edits (found x m) at ps out out' offset to ps') (sym e) (ran_same refl p)
 
   pub simulates_interned_found : (look : Pools Text Text → Option ℕ) (m : WriteStep Text Text ℕ) (offset at : ℕ) (ps : Pools Text Text) (out : List ℕ)
-      → look ps ≡ some offset → Simulates chunk edits (interned true look m) at ps out out offset at ps
+      → look ps ≡ Some offset → Simulates chunk edits (interned true look m) at ps out out offset at ps
   unfolding interned
   simulates_interned_found look m offset at ps out e =
       ran_same refl (ran_found (look ps) m offset at ps out e)
 
   pub simulates_interned_fresh : (look : Pools Text Text → Option ℕ) {m : WriteStep Text Text ℕ} {at to offset : ℕ} {ps ps' : Pools Text Text}
       {out out' : List ℕ}
-      → look ps ≡ none → Simulates chunk edits m at ps out out' offset to ps' → Simulates chunk edits (interned true look m) at ps out out' offset to ps'
+      → look ps ≡ None → Simulates chunk edits m at ps out out' offset to ps' → Simulates chunk edits (interned true look m) at ps out out' offset to ps'
   unfolding interned
   simulates_interned_fresh look {ps = ps} e q =
       ran_same refl (ran_absent (look ps) e q)

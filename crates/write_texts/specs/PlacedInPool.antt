@@ -3,7 +3,8 @@
 use Rattle.std.specs.Prelude.{◌≡◌, true, List, ◌∷◌, ℕ, ◌+◌, ◌*◌, ◌≤◌, length}
 use Rattle.reflection.specs.Limits.{chunk_limit}
 use Rattle.reflection.specs.declared.Text.{Text}
-use Rattle.write_spec.specs.Step.{TextFacts, Pools, pools, WriteStep, ◌>>=◌, append, add_to_pool, pad, find, interned, unless_empty, cells_of, default_byte}
+use Rattle.write_spec.specs.Step.{TextFacts, Pools, pools, WriteStep, ◌>>=◌, append, add_to_pool, pad, find, interned, unless_empty, cells_of}
+use Rattle.write_spec.specs.Step.{default_byte}
 use Rattle.write_spec.specs.Layout.{name_cells}
 use Rattle.write_pool.specs.Pool.{Indexed, entries, entry_count, entries_start, entry_width}
 use Rattle.write_texts.specs.Simulates.{Simulates}

@@ -7,7 +7,8 @@ use Rattle.write_spec.specs.Step.{WriteStep}
 use Rattle.write_pool.specs.Pool.{entries_start, entry_width, entry_count}
 use Rattle.write_texts.specs.Simulates.{Simulates}
 use Rattle.write_texts.specs.PlacedInPool.{placed_limit, TextPool, outer_names, inner_names, default_texts}
-use Rattle.write_texts.specs.Scratch.{outer_size, inner_size, defaults_size, inner_start, defaults_start, root_types_start, region, PoolsReady, pools_in}
+use Rattle.write_texts.specs.Scratch.{outer_size, inner_size, defaults_size, inner_start, defaults_start, root_types_start, region, PoolsReady}
+use Rattle.write_texts.specs.Scratch.{pools_in}
 use Rattle.write_texts.specs.declared.Placement.{Placement}
 
 -- How many entries a pool of so many words has room for: 1,433, 8,396 and 2,252 (docs/ROOM.md).

@@ -10,7 +10,6 @@ ghost use Rattle.write_texts.specs.Scratch.{inner_start, defaults_start, root_ty
 ghost use Rattle.write_texts.specs.PlacedInScratch.{outer_room, inner_room, default_room, TextPlaced};
 
 use reflection::{CHUNK_LIMIT, Text};
-use write_pool::Pooled;
 
 mod scratch;
 
@@ -53,21 +52,13 @@ pub fn place_name_in_pool<'a>(
 {
     let bytes = reflection::name_part(chunk, edits, name);
     let bucket = write_pool::bucket(bytes);
-    match write_pool::find_text(chunk, edits, &pool[..], bytes, bucket) {
-        Pooled::At(offset) => Placement {
-            offset: offset,
-            at: at,
-        },
-        Pooled::Absent => {
-            let end = write_bytes::put_name(out, at, bytes);
-            let offset = at as u32;
-            write_pool::remember(pool, name, bucket, offset);
-            Placement {
-                offset: offset,
-                at: end,
-            }
-        }
+    if let Some(offset) = write_pool::find_text(chunk, edits, pool, bytes, bucket) {
+        return Placement { offset, at };
     }
+    let end = write_bytes::put_name(out, at, bytes);
+    let offset = at as u32;
+    write_pool::remember(pool, name, bucket, offset);
+    Placement { offset, at: end }
 }
 
 // Places a default likewise, after padding. An empty one has offset 0.
@@ -86,26 +77,18 @@ pub fn place_default_in_pool<'a>(
         at pool.old pool.new out.old out.new result }
 {
     let bytes = reflection::name_part(chunk, edits, default);
-    if bytes.len() == 0 {
-        return Placement { offset: 0, at: at };
+    if bytes.is_empty() {
+        return Placement { offset: 0, at };
     }
     let bucket = write_pool::bucket(bytes);
-    match write_pool::find_text(chunk, edits, &pool[..], bytes, bucket) {
-        Pooled::At(offset) => Placement {
-            offset: offset,
-            at: at,
-        },
-        Pooled::Absent => {
-            let start = put_padding(out, at);
-            let end = text_output::put_bytes(out, start, bytes);
-            let offset = start as u32;
-            write_pool::remember(pool, default, bucket, offset);
-            Placement {
-                offset: offset,
-                at: end,
-            }
-        }
+    if let Some(offset) = write_pool::find_text(chunk, edits, pool, bytes, bucket) {
+        return Placement { offset, at };
     }
+    let start = put_padding(out, at);
+    let end = text_output::put_bytes(out, start, bytes);
+    let offset = start as u32;
+    write_pool::remember(pool, default, bucket, offset);
+    Placement { offset, at: end }
 }
 
 // Places a name of a binding or a buffer, with the pools in the scratch. Past a chunk's limit the chunk is refused, so nothing is looked up any more.
@@ -125,7 +108,7 @@ pub fn place_outer_name<'a>(
         at outer_pool 0 inner_start scratch.old scratch.new out.old out.new result }
 {
     if at > CHUNK_LIMIT {
-        return Placement { offset: 0, at: at };
+        return Placement { offset: 0, at };
     }
     place_name_in_pool(chunk, edits, name, &mut scratch[0..INNER_START], out, at)
 }
@@ -147,7 +130,7 @@ pub fn place_inner_name<'a>(
         at inner_pool inner_start defaults_start scratch.old scratch.new out.old out.new result }
 {
     if at > CHUNK_LIMIT {
-        return Placement { offset: 0, at: at };
+        return Placement { offset: 0, at };
     }
     place_name_in_pool(
         chunk,
@@ -176,7 +159,7 @@ pub fn place_default<'a>(
         at default_pool defaults_start root_types_start scratch.old scratch.new out.old out.new result }
 {
     if at > CHUNK_LIMIT {
-        return Placement { offset: 0, at: at };
+        return Placement { offset: 0, at };
     }
     place_default_in_pool(
         chunk,

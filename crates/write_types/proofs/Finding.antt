@@ -1,8 +1,8 @@
 -- Looking a type up among the entries of a region, newest first: each turn leaves one entry less, and the first equal one is found.
+use Rattle.std.specs.Prelude.{None, Some}
 use mathlib.Core.Path.{◌≡◌, refl, sym, ap, ◌∙◌}
 use mathlib.Core.Bool.{Bool, true, false}
 use mathlib.Core.List.{List, ◌∷◌}
-use mathlib.Core.Option.{none, some}
 use Prim.Native.Nat.{ℕ, zero, suc, ◌+◌, ◌*◌, ◌-◌, ◌≤◌, ◌<◌}
 use native.Mathlib.Omega.{arith}
 use borrow.Author.Tests.{eq-eqb, ne_eqb}
@@ -24,27 +24,29 @@ module _ (chunk edits types : List ℕ) (levels node : ℕ) (s : List ℕ) (star
   same_as = same_type (same_name chunk edits) (type_tree types levels node)
 
   -- The newest of `count` entries, where there are some: its place, as the code counts it, and the node there.
-  module _ (count other : ℕ) (some_left : 0 < count) (is-other : other ≡ get_or s (start + (base + (count - 1)) * shared_width) 0) where
+  module _ (count : ℕ) (some_left : 0 < count) where
+    abbrev place : ℕ → ℕ
+    place n = start + (base + (n - 1)) * shared_width
+
     newest : (n : ℕ) → 0 < n → types_from (type_tree types levels) start s base n
-        ≡ (type_tree types levels (get_or s (start + (base + (n - 1)) * shared_width) 0), get_or s (start + (base + (n - 1)) * shared_width + 1) 0)
-        ∷ types_from (type_tree types levels) start s base (n - 1)
+        ≡ (type_tree types levels (get_or s (place n) 0), get_or s (place n + 1) 0) ∷ types_from (type_tree types levels) start s base (n - 1)
     unfolding types_from
     newest zero h = absurd (omega (arith, h))
     newest (suc n) h =
         let less : suc n - 1 ≡ n = omega arith in
         rw less
 
-    pub newest_found : same_type (same_name chunk edits) (type_tree types levels node) (type_tree types levels other) ≡ true
-        → type_offset chunk edits types levels node s start base count ≡ some (get_or s (start + (base + (count - 1)) * shared_width + 1) 0)
+    pub newest_found : same_as (type_tree types levels (get_or s (place count) 0)) ≡ true
+        → type_offset chunk edits types levels node s start base count ≡ Some (get_or s (place count + 1) 0)
     unfolding type_offset find
-    newest_found e = ap (find same_as) (newest count some_left) ∙ rw (ap (λ (j : ℕ). same_as (type_tree types levels j)) (sym is-other) ∙ e)
+    newest_found e = ap (find same_as) (newest count some_left) ∙ rw e
 
-    pub newest_other : same_type (same_name chunk edits) (type_tree types levels node) (type_tree types levels other) ≡ false
+    pub newest_other : same_as (type_tree types levels (get_or s (place count) 0)) ≡ false
         → type_offset chunk edits types levels node s start base count ≡ type_offset chunk edits types levels node s start base (count - 1)
     unfolding type_offset find
-    newest_other e = ap (find same_as) (newest count some_left) ∙ rw (ap (λ (j : ℕ). same_as (type_tree types levels j)) (sym is-other) ∙ e)
+    newest_other e = ap (find same_as) (newest count some_left) ∙ rw e
 
-  pub none_left : (count : ℕ) → count ≤ 0 → type_offset chunk edits types levels node s start base count ≡ none
+  pub none_left : (count : ℕ) → count ≤ 0 → type_offset chunk edits types levels node s start base count ≡ None
   unfolding type_offset find types_from
   none_left zero h = refl
   none_left (suc count) h = absurd (omega (arith, h))
@@ -57,11 +59,11 @@ module _ (chunk edits types : List ℕ) (levels node : ℕ) (s : List ℕ) (star
     shared_looks share e z =
         rw (e, eq-eqb (type_at types node).elements 0 (ap (λ (x : TypeRecord). x.elements) (sym is-desc) ∙ z))
 
-    pub array_fresh : (share : Bool) → (desc.elements ≡ 0 → ⊥) → shared_offset share chunk edits types levels node s start base count ≡ none
+    pub array_fresh : (share : Bool) → (desc.elements ≡ 0 → ⊥) → shared_offset share chunk edits types levels node s start base count ≡ None
     unfolding shared_offset node_at node_from_table
     array_fresh true d = rw (ne_eqb (type_at types node).elements 0 (λ e. d (ap (λ (x : TypeRecord). x.elements) is-desc ∙ e)))
     array_fresh false d = refl
 
-  pub unshared_fresh : (count : ℕ) (share : Bool) → share ≡ false → shared_offset share chunk edits types levels node s start base count ≡ none
+  pub unshared_fresh : (count : ℕ) (share : Bool) → share ≡ false → shared_offset share chunk edits types levels node s start base count ≡ None
   unfolding shared_offset
   unshared_fresh count share e = rw e

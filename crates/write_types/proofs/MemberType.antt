@@ -1,5 +1,6 @@
 -- A member's type: found among the types of the members before it, or written with a pool of its own for its members; then it is one entry more, above those
 -- that were there, and the entries of its own members are dropped.
+use Rattle.std.specs.Prelude.{Option, Some, None}
 use mathlib.Core.Path.{◌≡◌, refl, sym, ap, ◌∙◌, subst}
 use mathlib.Core.Bool.{Bool, true}
 use mathlib.Core.List.{List, [], ◌∷◌}
@@ -11,9 +12,7 @@ use Rattle.reflection.specs.declared.Text.{Text}
 use Rattle.reflection.specs.Reflection.{TypeDesc}
 use Rattle.write_spec.specs.Step.{pools, in_member_pool, enter_member, leave_member, add_type}
 use Rattle.write_spec.specs.Layout.{place_type}
-use Rattle.write_pool.specs.declared.Pooled.{Pooled}
-use Rattle.write_pool.specs.declared.Pooled.TheVariants.{At, Absent}
-use Rattle.write_pool.specs.Pool.{entries, entry_count, pooled_at}
+use Rattle.write_pool.specs.Pool.{entries, entry_count}
 use Rattle.write_texts.specs.declared.WriteCursor.{WriteCursor}
 use Rattle.write_texts.specs.Simulates.{text_facts, chunk_limit, Simulates}
 use Rattle.write_texts.specs.Scratch.{shared_width, member_types_start, types_from, pools_in}
@@ -22,7 +21,7 @@ use Rattle.write_texts.proofs.Runs.{ran_below, ran_like, ran_past, simulates_add
 use Rattle.write_texts.proofs.ScratchPools.{ready_kept}
 use Rattle.tables.specs.Trees.{tree_at, type_tree}
 use Rattle.write_types.specs.Trees.{member_tree}
-use Rattle.write_types.specs.Room.{NodeRoom, TypeReady, Keeps}
+use Rattle.write_types.specs.Room.{TypeReady, Keeps}
 use Rattle.write_types.specs.TypePlaced.{shared_offset, TypeWritten, MemberTypePlaced}
 use Rattle.write_types.specs.declared.PlacedType.{PlacedType}
 use Rattle.write_types.proofs.Ready.{with_node_lem, with_members, entry_room, stays}
@@ -39,15 +38,6 @@ module _ {chunk edits types : List ℕ} {levels base records-top : ℕ} {cursor 
 
   abbrev own_types : List (TypeDesc Text × ℕ)
   own_types = types_from tree member_types_start s base count
-
-  -- The room that writing it has: its own members' types begin above those that are there.
-  pub ready_down : TypeReady chunk edits types levels (base + count) records-top (with_members cursor 0) s
-  ready_down = record {
-    short = start.short;
-    ready = start.ready;
-    room = subst (λ (e : ℕ). NodeRoom s cursor.node 1 cursor.at e records-top) (sym (add-zero (base + count))) start.room;
-    within = start.within;
-  }
 
   -- Nothing is written, whatever the reason.
   unwritten : {sm5 : Bool} {offset next : ℕ} {out : List ℕ} → next ≡ (tree_at types levels cursor.node).next
@@ -68,14 +58,14 @@ module _ {chunk edits types : List ℕ} {levels base records-top : ℕ} {cursor 
       → MemberTypePlaced chunk edits types sm5 levels base records-top cursor s s out out (record { offset = 0; cursor = with_node_lem cursor next })
   member_past past is-next = unwritten is-next (λ ts. ran_past chunk edits _ _ past (omega arith) refl)
 
-  module _ (looked-up : Pooled) (look : pooled_at looked-up ≡ shared_offset true chunk edits types levels cursor.node s member_types_start base count) where
+  module _ (looked-up : Option ℕ) (look : looked-up ≡ shared_offset true chunk edits types levels cursor.node s member_types_start base count) where
     -- On the way down the type is looked up among the members' types, and its own members' are none.
     pools_down : (ts : List (TypeDesc Text × ℕ)) → pools_in s own_types (member_tree types levels) (base + count) 0 ≡ enter_member (pools_in s ts tree base count)
     unfolding pools_in types_from
     pools_down ts = refl
 
     looked_down : (ts : List (TypeDesc Text × ℕ))
-        → looked chunk edits true (tree cursor.node) (enter_member (pools_in s ts tree base count)).types ≡ pooled_at looked-up
+        → looked chunk edits true (tree cursor.node) (enter_member (pools_in s ts tree base count)).types ≡ looked-up
     unfolding pools_in
     looked_down ts = looked_is chunk edits true types levels cursor.node s member_types_start base count ∙ sym look
 
@@ -84,14 +74,14 @@ module _ {chunk edits types : List ℕ} {levels base records-top : ℕ} {cursor 
     unfolding pools_in
     pools_found ts = refl
 
-    pub member_found : {sm5 : Bool} {offset next : ℕ} {out : List ℕ} → looked-up ≡ At offset → next ≡ (tree_at types levels cursor.node).next
+    pub member_found : {sm5 : Bool} {offset next : ℕ} {out : List ℕ} → looked-up ≡ Some offset → next ≡ (tree_at types levels cursor.node).next
         → MemberTypePlaced chunk edits types sm5 levels base records-top cursor s s out out (record { offset = offset; cursor = with_node_lem cursor next })
     member_found {sm5} found is-next =
         unwritten is-next
         (λ ts. ran_like chunk edits refl (pools_found ts) refl
-        (ran_below chunk edits (type_found chunk edits sm5 true (tree cursor.node) (looked_down ts ∙ ap pooled_at found))))
+        (ran_below chunk edits (type_found chunk edits sm5 true (tree cursor.node) (looked_down ts ∙ found))))
 
-    module _ {sm5 : Bool} {s₂ s₃ out out₂ : List ℕ} {placed : PlacedType} (absent : looked-up ≡ Absent)
+    module _ {sm5 : Bool} {s₂ s₃ out out₂ : List ℕ} {placed : PlacedType} (absent : looked-up ≡ None)
         (written : TypeWritten chunk edits types sm5 levels (base + count) records-top (with_members cursor 0) s s₂ out out₂ placed)
         (pushed : s₃ ≡ splice s₂ (member_types_start + (base + count) * shared_width) (cursor.node ∷ placed.offset ∷ [])) where
       abbrev push_place : ℕ
@@ -125,7 +115,7 @@ module _ {chunk edits types : List ℕ} {levels base records-top : ℕ} {cursor 
         ran = λ ts.
             ran_like chunk edits refl (pools_up ts) refl
             (ran_below chunk edits
-            (type_fresh chunk edits sm5 true (tree cursor.node) (looked_down ts ∙ ap pooled_at absent)
+            (type_fresh chunk edits sm5 true (tree cursor.node) (looked_down ts ∙ absent)
             (ran_like chunk edits (pools_down ts) refl refl (written.ran own_types))
             (simulates_add_to_pool_if_shared chunk edits true (add_type (tree cursor.node)) _ _ _ _ refl)));
         next = written.next;

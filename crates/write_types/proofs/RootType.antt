@@ -1,5 +1,6 @@
 -- A variable's type: found among the types of the variables before it, or written; then it is one entry more where it may be shared. The types of members lie
 -- on a stack of their own, which is the whole chunk's.
+use Rattle.std.specs.Prelude.{Option, Some, None}
 use mathlib.Core.Path.{◌≡◌, refl, sym, ap, ◌∙◌}
 use mathlib.Core.Bool.{Bool, true, false}
 use mathlib.Core.List.{List, [], ◌∷◌}
@@ -12,9 +13,7 @@ use Rattle.reflection.specs.Reflection.{TypeDesc}
 use Rattle.reflection.specs.Limits.{variable_room}
 use Rattle.write_spec.specs.Step.{Pools, pools, add_type}
 use Rattle.write_spec.specs.Layout.{place_type}
-use Rattle.write_pool.specs.declared.Pooled.{Pooled}
-use Rattle.write_pool.specs.declared.Pooled.TheVariants.{At, Absent}
-use Rattle.write_pool.specs.Pool.{entries, entry_count, pooled_at}
+use Rattle.write_pool.specs.Pool.{entries, entry_count}
 use Rattle.write_texts.specs.declared.WriteCursor.{WriteCursor}
 use Rattle.write_texts.specs.Simulates.{text_facts, chunk_limit, Simulates}
 use Rattle.write_texts.specs.Scratch.{shared_width, inner_start, defaults_start, root_types_start, member_types_start, records_start}
@@ -70,18 +69,18 @@ module _ {chunk edits types : List ℕ} {levels : ℕ} {cursor : WriteCursor} {s
       → RootTypePlaced chunk edits types sm5 share levels cursor s s out out (record { offset = 0; cursor = with_node_lem cursor next })
   root_past past is-next = unwritten is-next (ran_past chunk edits _ _ past (omega arith) refl)
 
-  module _ (share : Bool) (looked-up : Pooled)
-      (look : pooled_at looked-up ≡ shared_offset share chunk edits types levels cursor.node s root_types_start 0 roots) where
-    looked_here : (count : ℕ) → looked chunk edits share (tree cursor.node) (pools_of s count).types ≡ pooled_at looked-up
+  module _ (share : Bool) (looked-up : Option ℕ)
+      (look : looked-up ≡ shared_offset share chunk edits types levels cursor.node s root_types_start 0 roots) where
+    looked_here : (count : ℕ) → looked chunk edits share (tree cursor.node) (pools_of s count).types ≡ looked-up
     unfolding pools_in
     looked_here count = looked_is chunk edits share types levels cursor.node s root_types_start 0 roots ∙ sym look
 
-    pub root_found : {sm5 : Bool} {offset next : ℕ} {out : List ℕ} → looked-up ≡ At offset → next ≡ (tree_at types levels cursor.node).next
+    pub root_found : {sm5 : Bool} {offset next : ℕ} {out : List ℕ} → looked-up ≡ Some offset → next ≡ (tree_at types levels cursor.node).next
         → RootTypePlaced chunk edits types sm5 share levels cursor s s out out (record { offset = offset; cursor = with_node_lem cursor next })
     root_found {sm5} found is-next =
-        unwritten is-next (type_found chunk edits sm5 share (tree cursor.node) (looked_here cursor.member_types ∙ ap pooled_at found))
+        unwritten is-next (type_found chunk edits sm5 share (tree cursor.node) (looked_here cursor.member_types ∙ found))
 
-    module _ {sm5 : Bool} {s₂ out out₂ : List ℕ} {placed : PlacedType} (few-roots : roots < variable_room) (absent : looked-up ≡ Absent)
+    module _ {sm5 : Bool} {s₂ out out₂ : List ℕ} {placed : PlacedType} (few-roots : roots < variable_room) (absent : looked-up ≡ None)
         (written : TypeWritten chunk edits types sm5 levels 0 records_start cursor s s₂ out out₂ placed) where
       abbrev members : ℕ
       members = placed.cursor.member_types
@@ -99,8 +98,8 @@ module _ {chunk edits types : List ℕ} {levels : ℕ} {cursor : WriteCursor} {s
           region_agree defaults_start root_types_start s s₂ written.keeps.long (omega (arith, start.ready.long))
           (λ i low high. written.keeps.middle i low (omega arith))
 
-      absent_here : looked chunk edits share (tree cursor.node) (pools_of s cursor.member_types).types ≡ pooled_at Absent
-      absent_here = looked_here cursor.member_types ∙ ap pooled_at absent
+      absent_here : looked chunk edits share (tree cursor.node) (pools_of s cursor.member_types).types ≡ None
+      absent_here = looked_here cursor.member_types ∙ absent
 
       -- The type is not shared.
       types_now : root_types ≡ types_from tree root_types_start s₂ 0 placed.cursor.root_types

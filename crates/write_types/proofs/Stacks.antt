@@ -13,7 +13,8 @@ use Rattle.words.proofs.Splice.{splice_keeps_before, splice_keeps_after, take_sp
 use Rattle.reflection.specs.declared.Text.{Text}
 use Rattle.reflection.specs.Reflection.{TypeDesc}
 use Rattle.reflection.specs.Limits.{type_room}
-use Rattle.write_texts.specs.Scratch.{shared_width, inner_start, defaults_start, root_types_start, member_types_start, records_start, variables_start, scratch_size}
+use Rattle.write_texts.specs.Scratch.{shared_width, inner_start, defaults_start, root_types_start, member_types_start, records_start, variables_start}
+use Rattle.write_texts.specs.Scratch.{scratch_size}
 use Rattle.write_texts.specs.Scratch.{region, outer_pool, inner_pool, default_pool, types_from}
 use Rattle.write_texts.specs.PlacedInScratch.{Kept}
 use Rattle.write_texts.proofs.Regions.{types_agree}

@@ -33,14 +33,10 @@ use Rattle.write_types.specs.declared.PlacedMembers.{PlacedMembers}
 use Rattle.write_types.proofs.Ready.{with_at}
 use Rattle.write_types.proofs.Stacks.{keeps_then, keeps_names}
 
--- How many members the code counts.
-pub within_none : (levels count : ℕ) → levels ≡ 0 → count_within levels count ≡ 0
+-- Without levels the code counts no members.
+within_none : (levels count : ℕ) → levels ≡ 0 → count_within levels count ≡ 0
 within_none zero count e = refl
 within_none (suc levels) count e = absurd (omega (arith, e))
-
-pub within_some : (levels count : ℕ) → (levels ≡ 0 → ⊥) → count_within levels count ≡ count
-within_some zero count h = absurd (h refl)
-within_some (suc levels) count h = refl
 
 -- A type by the members that the code counts.
 pub tree_counted : (types : List ℕ) (levels node : ℕ) {desc : TypeRecord} {count : ℕ} → desc ≡ type_at types node

@@ -1,7 +1,6 @@
 -- Vocabulary of internal contracts: no contract of an exported function and no demand cites it.
 -- What the functions that place a type leave: which step ran, and what was used of the room.
-use Rattle.std.specs.Prelude.{◌≡◌, Bool, true, ◌&&◌, List, ℕ, ◌+◌, ◌*◌, ◌-◌, ◌≤◌, eqb, length, get_or}
-use Rattle.std.proofs.Math.Option.{Option}
+use Rattle.std.specs.Prelude.{◌≡◌, Bool, true, ◌&&◌, List, ℕ, ◌+◌, ◌*◌, ◌-◌, ◌≤◌, eqb, length, get_or, Option}
 use Rattle.reflection.specs.declared.Text.{Text}
 use Rattle.reflection.specs.Reflection.{TypeNumbers, TypeDesc, member_count}
 use Rattle.write_spec.specs.Step.{Pools, find, in_member_pool}
@@ -9,7 +8,8 @@ use Rattle.write_spec.specs.Same.{same_type}
 use Rattle.write_spec.specs.Layout.{place_type, place_members}
 use Rattle.write_pool.specs.Pool.{entry_count}
 use Rattle.write_texts.specs.Simulates.{text_facts, Simulates}
-use Rattle.write_texts.specs.Scratch.{member_width, root_types_start, variables_start, region, outer_pool, inner_pool, default_pool, types_from, pools_in, PoolsReady}
+use Rattle.write_texts.specs.Scratch.{member_width, root_types_start, variables_start, region, outer_pool, inner_pool, default_pool, types_from}
+use Rattle.write_texts.specs.Scratch.{pools_in, PoolsReady}
 use Rattle.write_texts.specs.declared.Placement.{Placement}
 use Rattle.write_texts.specs.declared.WriteCursor.{WriteCursor}
 use Rattle.tables.specs.Trees.{node_at, tree_at, type_tree}

@@ -1,7 +1,6 @@
 -- Vocabulary of internal contracts: no contract of an exported function and no demand cites it.
 -- The parts of writing a type (crate write_spec, Layout) that one function of the code does.
-use Rattle.std.specs.Prelude.{Bool, true, false, List, ℕ, zero, suc}
-use Rattle.std.proofs.Math.Option.{Option, none}
+use Rattle.std.specs.Prelude.{Bool, true, false, List, ℕ, zero, suc, Option, None}
 use Rattle.reflection.specs.declared.Text.{Text}
 use Rattle.reflection.specs.Reflection.{TypeNumbers, TypeDesc, type_desc, member_count}
 use Rattle.write_spec.specs.Step.{TextFacts, WriteStep, ◌>>=◌, append, pad, word_cells, unless_empty}
@@ -38,4 +37,4 @@ count_within (suc levels) count = count
 -- What is looked up only where a type may be shared.
 abbrev pub only_if : Bool → Option ℕ → Option ℕ
 only_if true looked = looked
-only_if false looked = none
+only_if false looked = None

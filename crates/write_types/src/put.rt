@@ -17,8 +17,7 @@ use write_texts::{MEMBER_WORDS, Placement};
 fn two_halves(low: u32, high: u32) -> u32
     ensures { word_bytes result ≡ word_bytes (halves low high) }
 {
-    let sum = low as u64 + (high as u64) * 65536;
-    (sum % 4294967296) as u32
+    low.wrapping_add(high.wrapping_mul(65536))
 }
 
 // Writes the members' records, after padding; nothing, and offset 0, where there are none.
@@ -26,8 +25,8 @@ fn put_records(out: &mut [u8], at: usize, records: &[u32]) -> Placement
     requires { (at ≤ farthest_offset) × (length records.now ≤ type_room * member_width) }
     ensures { RecordsPut records.now at out.old out.new result }
 {
-    if records.len() == 0 {
-        return Placement { offset: 0, at: at };
+    if records.is_empty() {
+        return Placement { offset: 0, at };
     }
     let start = write_texts::put_padding(out, at);
     let end = write_texts::put_word_bytes(out, start, records);
@@ -54,8 +53,7 @@ fn put_descriptor(
     let kind = two_halves(node.class, node.var_type);
     let shape = two_halves(node.rows, node.columns);
     let counts = two_halves(node.elements, count);
-    let first_words = [kind, shape, counts, members];
-    let to = write_texts::put_word_bytes(out, at, &first_words);
+    let to = write_texts::put_word_bytes(out, at, &[kind, shape, counts, members]);
     if sm5 {
         let sm5_words = [node.extra0, node.extra1, node.extra2, node.extra3, name];
         return write_texts::put_word_bytes(out, to, &sm5_words);
@@ -77,9 +75,8 @@ pub fn put_type(
 {
     let count = records.len() / MEMBER_WORDS;
     let members = put_records(out, at, records);
-    let offset = members.offset;
     let start = write_texts::put_padding(out, members.at);
-    let end = put_descriptor(out, start, node, count as u32, offset, name, sm5);
+    let end = put_descriptor(out, start, node, count as u32, members.offset, name, sm5);
     Placement {
         offset: start as u32,
         at: end,

@@ -10,7 +10,6 @@ use crate::PlacedType;
 use crate::find::find_shared;
 use crate::write::write_type;
 use reflection::{CHUNK_LIMIT, TYPE_LEVELS};
-use write_pool::Pooled;
 use write_texts::{RECORDS_START, ROOT_TYPES_START, SHARED_WORDS, WriteCursor};
 
 // Places the type at the cursor's node as a variable's. It is looked up among the cursor's types of variables, and is the next of them where it was not found
@@ -30,19 +29,18 @@ pub fn place_root_type<'a>(
     ensures { RootTypePlaced chunk.now edits.now types.now sm5 share type_levels cursor
         scratch.old scratch.new out.old out.new result }
 {
-    let mut after = cursor;
     if cursor.at > CHUNK_LIMIT {
-        after.node = compare_types::skip_type(types, cursor.node, TYPE_LEVELS);
+        let node = compare_types::skip_type(types, cursor.node, TYPE_LEVELS);
         return PlacedType {
             offset: 0,
-            cursor: after,
+            cursor: WriteCursor { node, ..cursor },
         };
     }
-    match find_shared(
+    if let Some(offset) = find_shared(
         chunk,
         edits,
         types,
-        &scratch[..],
+        scratch,
         ROOT_TYPES_START,
         0,
         cursor.root_types,
@@ -50,41 +48,38 @@ pub fn place_root_type<'a>(
         TYPE_LEVELS,
         share,
     ) {
-        Pooled::At(offset) => {
-            after.node = compare_types::skip_type(types, cursor.node, TYPE_LEVELS);
-            PlacedType {
-                offset: offset,
-                cursor: after,
-            }
-        }
-        Pooled::Absent => {
-            let placed = write_type(
-                chunk,
-                edits,
-                types,
-                scratch,
-                out,
-                cursor,
-                TYPE_LEVELS,
-                0,
-                RECORDS_START,
-                sm5,
-            );
-            if share {
-                let entry = [cursor.node as u32, placed.offset];
-                words::put_words(
-                    scratch,
-                    ROOT_TYPES_START + cursor.root_types * SHARED_WORDS,
-                    &entry,
-                );
-                after = placed.cursor;
-                after.root_types = cursor.root_types + 1;
-                return PlacedType {
-                    offset: placed.offset,
-                    cursor: after,
-                };
-            }
-            placed
-        }
+        let node = compare_types::skip_type(types, cursor.node, TYPE_LEVELS);
+        return PlacedType {
+            offset,
+            cursor: WriteCursor { node, ..cursor },
+        };
+    }
+    let placed = write_type(
+        chunk,
+        edits,
+        types,
+        scratch,
+        out,
+        cursor,
+        TYPE_LEVELS,
+        0,
+        RECORDS_START,
+        sm5,
+    );
+    if !share {
+        return placed;
+    }
+    let entry = [cursor.node as u32, placed.offset];
+    words::overwrite(
+        scratch,
+        ROOT_TYPES_START + cursor.root_types * SHARED_WORDS,
+        &entry,
+    );
+    PlacedType {
+        offset: placed.offset,
+        cursor: WriteCursor {
+            root_types: cursor.root_types + 1,
+            ..placed.cursor
+        },
     }
 }

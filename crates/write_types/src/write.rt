@@ -12,7 +12,6 @@ use crate::find::find_shared;
 use crate::put::put_type;
 use crate::{PlacedMembers, PlacedType};
 use reflection::{CHUNK_LIMIT, Text};
-use write_pool::Pooled;
 use write_texts::{MEMBER_TYPES_START, MEMBER_WORDS, Placement, SHARED_WORDS, WriteCursor};
 
 // Places a type's name; an empty one has offset 0.
@@ -32,8 +31,8 @@ fn place_type_name<'a>(
         inner_pool inner_start defaults_start scratch.old scratch.new out.old out.new result }
 {
     let bytes = reflection::name_part(chunk, edits, name);
-    if bytes.len() == 0 {
-        return Placement { offset: 0, at: at };
+    if bytes.is_empty() {
+        return Placement { offset: 0, at };
     }
     write_texts::place_inner_name(chunk, edits, name, scratch, out, at)
 }
@@ -65,12 +64,10 @@ pub fn write_type<'a>(
 {
     let desc = tables::type_at(types, cursor.node);
     let name = place_type_name(chunk, edits, desc.name, scratch, out, cursor.at);
-    let name_offset = name.offset;
     let inside = WriteCursor {
         at: name.at,
         node: cursor.node + 1,
-        member_types: cursor.member_types,
-        root_types: cursor.root_types,
+        ..cursor
     };
     let members = place_members(
         chunk,
@@ -85,20 +82,14 @@ pub fn write_type<'a>(
         records_top,
         sm5,
     );
-    let end = members.records_top;
-    let mut after = members.cursor;
-    let placed = put_type(
-        out,
-        after.at,
-        &scratch[records_top..end],
-        desc,
-        name_offset,
-        sm5,
-    );
-    after.at = placed.at;
+    let records = &scratch[records_top..members.records_top];
+    let placed = put_type(out, members.cursor.at, records, desc, name.offset, sm5);
     PlacedType {
         offset: placed.offset,
-        cursor: after,
+        cursor: WriteCursor {
+            at: placed.at,
+            ..members.cursor
+        },
     }
 }
 
@@ -135,22 +126,20 @@ fn place_members<'a>(
             out,
             to.at,
         );
-        let name_offset = name.offset;
-        to.at = name.at;
         let placed = place_member_type(
             chunk,
             edits,
             types,
             scratch,
             out,
-            to,
+            WriteCursor { at: name.at, ..to },
             levels - 1,
             base,
             top,
             sm5,
         );
-        let row = [name_offset, placed.offset, desc.member_offset];
-        words::put_words(scratch, top, &row);
+        let row = [name.offset, placed.offset, desc.member_offset];
+        words::overwrite(scratch, top, &row);
         to = placed.cursor;
         top += MEMBER_WORDS;
         left -= 1;
@@ -180,19 +169,18 @@ fn place_member_type<'a>(
     ensures { MemberTypePlaced chunk.now edits.now types.now sm5 levels base records_top cursor
         scratch.old scratch.new out.old out.new result }
 {
-    let mut after = cursor;
     if cursor.at > CHUNK_LIMIT {
-        after.node = compare_types::skip_type(types, cursor.node, levels);
+        let node = compare_types::skip_type(types, cursor.node, levels);
         return PlacedType {
             offset: 0,
-            cursor: after,
+            cursor: WriteCursor { node, ..cursor },
         };
     }
-    match find_shared(
+    if let Some(offset) = find_shared(
         chunk,
         edits,
         types,
-        &scratch[..],
+        scratch,
         MEMBER_TYPES_START,
         base,
         cursor.member_types,
@@ -200,36 +188,36 @@ fn place_member_type<'a>(
         levels,
         true,
     ) {
-        Pooled::At(offset) => {
-            after.node = compare_types::skip_type(types, cursor.node, levels);
-            PlacedType {
-                offset: offset,
-                cursor: after,
-            }
-        }
-        Pooled::Absent => {
-            let count = base + cursor.member_types;
-            after.member_types = 0;
-            let placed = write_type(
-                chunk,
-                edits,
-                types,
-                scratch,
-                out,
-                after,
-                levels,
-                count,
-                records_top,
-                sm5,
-            );
-            let entry = [cursor.node as u32, placed.offset];
-            words::put_words(scratch, MEMBER_TYPES_START + count * SHARED_WORDS, &entry);
-            after = placed.cursor;
-            after.member_types = cursor.member_types + 1;
-            PlacedType {
-                offset: placed.offset,
-                cursor: after,
-            }
-        }
+        let node = compare_types::skip_type(types, cursor.node, levels);
+        return PlacedType {
+            offset,
+            cursor: WriteCursor { node, ..cursor },
+        };
+    }
+    let count = base + cursor.member_types;
+    let inside = WriteCursor {
+        member_types: 0,
+        ..cursor
+    };
+    let placed = write_type(
+        chunk,
+        edits,
+        types,
+        scratch,
+        out,
+        inside,
+        levels,
+        count,
+        records_top,
+        sm5,
+    );
+    let entry = [cursor.node as u32, placed.offset];
+    words::overwrite(scratch, MEMBER_TYPES_START + count * SHARED_WORDS, &entry);
+    PlacedType {
+        offset: placed.offset,
+        cursor: WriteCursor {
+            member_types: cursor.member_types + 1,
+            ..placed.cursor
+        },
     }
 }

@@ -1,7 +1,7 @@
 -- `find_payload` meets its contract: each test of the code is a test of the payload, and what is written is what `write_rdef_canonical` writes.
+use Rattle.reflection.specs.Outcome.{Outcome}
 use mathlib.Core.Path.{◌≡◌, refl, sym, ap, ◌∙◌}
 use lib.ListN.{length, length-replicate}
-use Rattle.reflection.specs.Outcome.{Outcome}
 use Rattle.reflection.specs.Contents.{Bytes}
 use Rattle.readable.specs.Readable.{readable}
 use Rattle.write_spec.specs.Payload.{Part}
@@ -11,7 +11,7 @@ use Rattle.payload.proofs.Answers.{enough_long, no_room_lem, not_readable_lem, t
 use Rattle.payload.proofs.find_payload.Goals as goal
 
 -- What is left of an outcome is left of one that it equals.
-left_as : {outcome asked : Outcome Part} {before after : Bytes} {r : Payload} → PayloadWritten outcome before after r → asked ≡ outcome
+left_as : {outcome asked : Outcome Part} {before after : Bytes} {r : Outcome Payload} → PayloadWritten outcome before after r → asked ≡ outcome
     → PayloadWritten asked before after r
 left_as {before = before} left is = record {
   answer = left.answer ∙ ap payload_answer (sym is);

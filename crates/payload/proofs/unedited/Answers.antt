@@ -16,15 +16,15 @@ same_reflection-requires c =
     let parsed = c.parse_rdef-parsed.ensures in
     let found =
     held_of _ _ _ _ (read_into a.chunk.now a.found_bindings.now a.found_buffers.now a.found_variables.now a.found_types.now) _
-    (sym c.in-Read.is ∙ parsed.answer) parsed.bindings parsed.buffers parsed.variables parsed.types in
+    (sym c.in-Ok.is ∙ parsed.answer) parsed.bindings parsed.buffers parsed.variables parsed.types in
     let bytes : (i : ℕ) → get_or a.chunk.now i 0 < 256 = λ i. omega (arith, c.type_inv.chunk i) in
     record {
       sized = tables_sized (found_readable _ bytes _ _ _ _ found);
       sized_2 = tables_sized (readable_holds _ _ _ _ _ _ _ c.requires.types_value);
     }
 
-pub returns-in-Refused : goal.returns-in-Refused
-returns-in-Refused c =
+pub returns-in-Err : goal.returns-in-Err
+returns-in-Err c =
     let a = c.args in
     let parsed = c.parse_rdef-parsed.ensures in
     let kept = c.parse_rdef-parsed.auto in
@@ -32,7 +32,7 @@ returns-in-Refused c =
     let whole = full_room_lem _ _ _ _ long.0 long.1.0 long.1.1.0 long.1.1.1 in
     let unread =
     zeroed _ _ _ _ (read_into a.chunk.now a.found_bindings.now a.found_buffers.now a.found_variables.now a.found_types.now) _
-    (sym c.in-Refused.is ∙ parsed.answer) parsed.bindings parsed.buffers parsed.variables parsed.types in record {
+    (sym c.in-Err.is ∙ parsed.answer) parsed.bindings parsed.buffers parsed.variables parsed.types in record {
       answer = unread_edited _ _ _ _ _ _ _ (readable_holds _ _ _ _ _ _ _ c.requires.types_value) _ _ _ _ whole _ unread.is;
       bindings = kept.bindings;
       buffers = kept.buffers;
@@ -40,8 +40,8 @@ returns-in-Refused c =
       types = kept.types;
     }
 
-pub returns-in-Read : goal.returns-in-Read
-returns-in-Read c =
+pub returns-in-Ok : goal.returns-in-Ok
+returns-in-Ok c =
     let a = c.args in
     let parsed = c.parse_rdef-parsed.ensures in
     let kept = c.parse_rdef-parsed.auto in
@@ -49,7 +49,7 @@ returns-in-Read c =
     let whole = full_room_lem _ _ _ _ long.0 long.1.0 long.1.1.0 long.1.1.1 in
     let found =
     held_of _ _ _ _ (read_into a.chunk.now a.found_bindings.now a.found_buffers.now a.found_variables.now a.found_types.now) _
-    (sym c.in-Read.is ∙ parsed.answer) parsed.bindings parsed.buffers parsed.variables parsed.types in
+    (sym c.in-Ok.is ∙ parsed.answer) parsed.bindings parsed.buffers parsed.variables parsed.types in
     let bytes : (i : ℕ) → get_or a.chunk.now i 0 < 256 = λ i. omega (arith, c.type_inv.chunk i) in record {
       answer = c.same_reflection.ensures ∙ read_compared _ _ _ _ _ _ _ (readable_holds _ _ _ _ _ _ _ c.requires.types_value) _ _ _ _ whole bytes found;
       bindings = kept.bindings;

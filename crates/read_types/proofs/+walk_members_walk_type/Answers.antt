@@ -1,14 +1,17 @@
-use mathlib.Core.Path.{◌≡◌, refl, sym, ap, ◌∙◌}
-use mathlib.Core.Bool.{Bool, true, false}
+use Rattle.text.specs.declared.Span.{Span}
+use Rattle.std.specs.Prelude.{Option, Some}
+use Rattle.std.specs.Option.{is_some}
+use Rattle.std.proofs.lemmas.Result.{err_from_is_err_and}
+use Rattle.reflection.specs.declared.refusal.Refusal.TheVariants.{BadName}
+use mathlib.Core.Path.{◌≡◌, sym, ap, ◌∙◌}
+use mathlib.Core.Bool.{Bool, true, false, not}
 use mathlib.Core.List.{List}
 use Prim.Native.Nat.{ℕ, ◌+◌, ◌-◌, ◌<◌}
 use native.Mathlib.Omega.{arith}
 use lib.ListN.{length, take, length-set}
 use Rattle.words.specs.Words.{word_at, high_at}
 use Rattle.words.specs.Parts.{inside}
-use Rattle.words.proofs.Parts.{inside_fits}
-use Rattle.text.specs.declared.Found.{Found}
-use Rattle.text.specs.declared.Found.TheVariants.{At}
+use Rattle.text.specs.Strings.{span}
 use Rattle.text.specs.Strings.{cstring_at}
 use Rattle.reflection.specs.Limits.{type_levels}
 use Rattle.reflection.specs.Strides.{member_stride}
@@ -19,14 +22,14 @@ use Rattle.tables.specs.Tables.{type_record}
 use Rattle.read_spec.specs.declared.Counts.{Counts}
 use Rattle.read_spec.specs.Read.{on_path, type_stride}
 use Rattle.read_types.specs.Walk.{node_from_chunk, ReadyLevels}
-use Rattle.read_types.proofs.Grown.{none_grown}
-use Rattle.read_types.proofs.MembersWalk.{MemberAt, ends, ends_short, ends_bad, ends_below, goes_on}
+use Rattle.read_types.proofs.Path.{on_path_by_search}
+use Rattle.read_types.proofs.MembersWalk.{MemberAt, starts, ends, ends_short, ends_bad, ends_below, goes_on}
 use Rattle.read_types.proofs.TypeWalk.{Entered, stops_deep, stops_cycle, stops_full, stops_short, stops_inside, stops_unnamed, arrives}
 use Rattle.read_types.proofs.+walk_members_walk_type.Goals as goal
 
 -- A member's record was tested and read, and its name found.
-member_at : {s : List ℕ} {at left place k below offset name : ℕ} {tested : Bool} {found : Found}
-    → 0 < left → tested ≡ inside (length s) at member_stride → tested ≡ true → name ≡ word_at s at → found ≡ cstring_at s name → found ≡ At place k
+member_at : {s : List ℕ} {at left place k below offset name : ℕ} {tested : Bool} {found : (Option Span)}
+    → 0 < left → tested ≡ inside (length s) at member_stride → tested ≡ true → name ≡ word_at s at → found ≡ cstring_at s name → found ≡ Some (span place k)
     → below ≡ word_at s (at + 4) → offset ≡ word_at s (at + 8)
     → MemberAt s at left place k below offset
 member_at {s} more is_tested fits is_name is_found found below offset = record {
@@ -58,43 +61,24 @@ entered {s} {at = at} {n = n} {types = types} ready level is_known fresh free is
   is_first = first;
 }
 
-pub walk_members-loop-left-init : goal.walk_members-loop-left-init
-walk_members-loop-left-init t c = record {
-  same = refl;
-  above = refl;
-  grew = none_grown _ (omega arith) (omega arith) (omega arith) c.requires.ready.types_fit.taken;
-  types_long = refl;
-  path_long = refl;
-}
-
--- In a turn of the loop, once the member's record is known to lie in the chunk, the places of its words fit.
-pub walk_members-overflow_add-at : goal.walk_members-overflow_add-at
-walk_members-overflow_add-at t c =
-    omega (
-      arith,
-      inside_fits (length c.args.chunk.now) c.loop-left.at member_stride (sym c.inside.ensures ∙ c.if-inside.true),
-      c.requires.ready.chunk-fits,
-    )
-
-pub walk_members-overflow_add-at-then-inside : goal.walk_members-overflow_add-at-then-inside
-walk_members-overflow_add-at-then-inside t c =
-    omega (
-      arith,
-      inside_fits (length c.args.chunk.now) c.loop-left.at member_stride (sym c.inside.ensures ∙ c.if-inside.true),
-      c.requires.ready.chunk-fits,
-    )
+pub walk_members-loop-init : goal.walk_members-loop-init
+walk_members-loop-init t c = starts c.requires (omega arith)
 
 -- The member's name is bad.
-pub walk_members-returns-in-Bad : goal.walk_members-returns-in-Bad
-walk_members-returns-in-Bad t c =
-    ends_bad c.loop-left.invariant c.loop-left-test.true (sym c.inside.ensures ∙ c.if-inside.true)
-    (sym (c.cstring_at-found.ensures.0 ∙ ap (cstring_at c.args.chunk.now) c.word_at-name.ensures) ∙ c.in-Bad.is)
+pub walk_members-returns-in_err-found : goal.walk_members-returns-in_err-found
+walk_members-returns-in_err-found t c =
+    let p = err_from_is_err_and c.from_residual.result c.from_residual.ensures.1 in
+    let none = c.in_err-found.ensures.ok_part in
+    let bad : p.0 ≡ BadName = grind arith in
+    rw (p.1, bad)
+    (ends_bad c.loop.invariant (omega arith) (sym c.inside.ensures ∙ c.if-not-inside.false)
+    (sym (c.cstring_at.ensures.0 ∙ ap (cstring_at c.args.chunk.now) c.word_at-name.ensures) ∙ none))
 
 -- The measure of the type's walk is one less, and it is given what this walk has.
-pub walk_members-walk_type-answer-requires : goal.walk_members-walk_type-answer-requires
-walk_members-walk_type-answer-requires t c =
+pub walk_members-walk_type-requires : goal.walk_members-walk_type-requires
+walk_members-walk_type-requires t c =
     let ready = c.requires.ready in
-    let going = c.loop-left.invariant in (
+    let going = c.loop.invariant in (
       omega arith,
       record {
         ready = record {
@@ -107,38 +91,32 @@ walk_members-walk_type-answer-requires t c =
     )
 
 -- The walk of the member's type refused.
-pub walk_members-returns-in-Refused : goal.walk_members-returns-in-Refused
-walk_members-returns-in-Refused t c =
-    ends_below c.loop-left.invariant
-    (member_at c.loop-left-test.true c.inside.ensures c.if-inside.true c.word_at-name.ensures c.cstring_at-found.ensures.0 c.in-At.is
-    c.word_at-below.ensures c.word_at-offset.ensures)
-    c.in_chunk.ensures c.in-Refused.is c.walk_type-answer.ensures
+pub walk_members-returns-in_err-next : goal.walk_members-returns-in_err-next
+walk_members-returns-in_err-next t c =
+    let p = err_from_is_err_and c.from_residual-in_err-next.result c.from_residual-in_err-next.ensures.1 in
+    rw (p.1, p.2)
+    (ends_below c.loop.invariant
+    (member_at (omega arith) c.inside.ensures c.if-not-inside.false c.word_at-name.ensures c.cstring_at.ensures.0 c.in_ok-found.ensures.ok_part
+    c.word_at-below.ensures c.word_at.ensures)
+    c.in_chunk.ensures c.in_err-next.ensures)
 
 -- The member's record runs past the chunk.
-pub walk_members-returns-else-inside : goal.walk_members-returns-else-inside
-walk_members-returns-else-inside t c =
-    ends_short c.loop-left.invariant c.loop-left-test.true (sym c.inside.ensures ∙ c.if-inside.false)
+pub walk_members-returns-then-not-inside : goal.walk_members-returns-then-not-inside
+walk_members-returns-then-not-inside t c =
+    ends_short c.loop.invariant (omega arith) (sym c.inside.ensures ∙ c.if-not-inside.true)
 
 -- The next member.
-pub walk_members-overflow_add-at-in-loop-left : goal.walk_members-overflow_add-at-in-loop-left
-walk_members-overflow_add-at-in-loop-left t c =
-    omega (
-      arith,
-      inside_fits (length c.args.chunk.now) c.loop-left.at member_stride (sym c.inside.ensures ∙ c.if-inside.true),
-      c.requires.ready.chunk-fits,
-    )
-
-pub walk_members-loop-left-preserved : goal.walk_members-loop-left-preserved
-walk_members-loop-left-preserved t c =
-    goes_on c.loop-left.invariant
-    (member_at c.loop-left-test.true c.inside.ensures c.if-inside.true c.word_at-name.ensures c.cstring_at-found.ensures.0 c.in-At.is
-    c.word_at-below.ensures c.word_at-offset.ensures)
-    c.in_chunk.ensures c.in-Next.is c.walk_type-answer.ensures
-    c.walk_type-answer.auto.types c.walk_type-answer.auto.path
+pub walk_members-loop-preserved : goal.walk_members-loop-preserved
+walk_members-loop-preserved t c =
+    goes_on c.loop.invariant
+    (member_at (omega arith) c.inside.ensures c.if-not-inside.false c.word_at-name.ensures c.cstring_at.ensures.0 c.in_ok-found.ensures.ok_part
+    c.word_at-below.ensures c.word_at.ensures)
+    c.in_chunk.ensures c.in_ok-next.ensures
+    c.walk_type.auto.types c.walk_type.auto.path (omega arith)
 
 -- No member is left.
 pub walk_members-returns : goal.walk_members-returns
-walk_members-returns t c = ends c.loop-left.invariant c.loop-left-test.false
+walk_members-returns t c = ends c.loop.invariant (omega arith)
 
 -- Too deep.
 pub walk_type-returns-then-levels-eq0 : goal.walk_type-returns-then-levels-eq0
@@ -146,27 +124,27 @@ walk_type-returns-then-levels-eq0 t c =
     stops_deep c.requires c.args.sm5 c.args.at c.args.member.name c.args.member.offset c.if-levels-eq0.true
 
 -- Already on the path.
-pub walk_type-returns-then-on_path : goal.walk_type-returns-then-on_path
-walk_type-returns-then-on_path t c =
+pub walk_type-returns-then-contains : goal.walk_type-returns-then-contains
+walk_type-returns-then-contains t c =
     stops_cycle c.requires c.args.sm5 c.args.at c.args.member.name c.args.member.offset
-    c.if-levels-eq0.false (sym c.on_path.ensures ∙ c.if-on_path.true)
+    c.if-levels-eq0.false (sym (c.contains.ensures.value ∙ on_path_by_search _ _) ∙ c.if-contains.true)
 
 -- No room.
 pub walk_type-returns-then-capacity-n : goal.walk_type-returns-then-capacity-n
 walk_type-returns-then-capacity-n t c =
     stops_full c.requires c.args.sm5 c.args.at c.args.member.name c.args.member.offset
-    c.if-levels-eq0.false (sym c.on_path.ensures ∙ c.if-on_path.false) c.if-capacity-n.true
+    c.if-levels-eq0.false (sym (c.contains.ensures.value ∙ on_path_by_search _ _) ∙ c.if-contains.false) c.if-capacity-n.true
 
 -- Past the chunk.
-pub walk_type-returns-else-inside : goal.walk_type-returns-else-inside
-walk_type-returns-else-inside t c =
+pub walk_type-returns-then-not-inside : goal.walk_type-returns-then-not-inside
+walk_type-returns-then-not-inside t c =
     stops_short c.requires c.args.sm5 c.args.at c.args.member.name c.args.member.offset
-    c.if-levels-eq0.false (sym c.on_path.ensures ∙ c.if-on_path.false) c.if-capacity-n.false
-    (sym (c.inside.ensures ∙ ap (inside (length c.args.chunk.now) c.args.at) c.type_stride.ensures) ∙ c.if-inside.false)
+    c.if-levels-eq0.false (sym (c.contains.ensures.value ∙ on_path_by_search _ _) ∙ c.if-contains.false) c.if-capacity-n.false
+    (sym (c.inside.ensures ∙ ap (inside (length c.args.chunk.now) c.args.at) c.type_stride.ensures) ∙ c.if-not-inside.true)
 
 -- The members: one level deeper, after this node.
-pub walk_type-walk_members-answer-requires : goal.walk_type-walk_members-answer-requires
-walk_type-walk_members-answer-requires t c =
+pub walk_type-walk_members-requires : goal.walk_type-walk_members-requires
+walk_type-walk_members-requires t c =
     let ready = c.requires.ready in (
       omega (arith, c.if-levels-eq0.false),
       record {
@@ -180,25 +158,27 @@ walk_type-walk_members-answer-requires t c =
     )
 
 -- The walk of the members refused.
-pub walk_type-returns-in-Refused : goal.walk_type-returns-in-Refused
-walk_type-returns-in-Refused t c =
-    stops_inside
-    (entered c.requires c.if-levels-eq0.false c.on_path.ensures c.if-on_path.false c.if-capacity-n.false c.type_stride.ensures c.inside.ensures
-    c.if-inside.true c.type_node-node.ensures c.put_type.ensures c.high_at-count.ensures c.word_at-first.ensures)
-    c.in-Refused.is c.walk_members-answer.ensures
-
--- All members are walked, and the type's name is good.
-pub walk_type-returns-in-At : goal.walk_type-returns-in-At
-walk_type-returns-in-At t c =
-    arrives
-    (entered c.requires c.if-levels-eq0.false c.on_path.ensures c.if-on_path.false c.if-capacity-n.false c.type_stride.ensures c.inside.ensures
-    c.if-inside.true c.type_node-node.ensures c.put_type.ensures c.high_at-count.ensures c.word_at-first.ensures)
-    c.in-Next.is c.walk_members-answer.ensures (sym c.type_name_at-name.ensures.0 ∙ c.in-At.is)
+pub walk_type-returns-in_err-after : goal.walk_type-returns-in_err-after
+walk_type-returns-in_err-after t c =
+    let p = err_from_is_err_and c.from_residual.result c.from_residual.ensures.1 in
+    rw (p.1, p.2)
+    (stops_inside
+    (entered c.requires c.if-levels-eq0.false (c.contains.ensures.value ∙ on_path_by_search _ _) c.if-contains.false c.if-capacity-n.false c.type_stride.ensures c.inside.ensures
+    c.if-not-inside.false c.type_node-node.ensures c.put_type.ensures c.high_at-count.ensures c.word_at-first.ensures)
+    c.in_err-after.ensures)
 
 -- All members are walked, and the type's name is bad.
-pub walk_type-returns-in-Bad : goal.walk_type-returns-in-Bad
-walk_type-returns-in-Bad t c =
+pub walk_type-returns-then-is_none : goal.walk_type-returns-then-is_none
+walk_type-returns-then-is_none t c =
     stops_unnamed
-    (entered c.requires c.if-levels-eq0.false c.on_path.ensures c.if-on_path.false c.if-capacity-n.false c.type_stride.ensures c.inside.ensures
-    c.if-inside.true c.type_node-node.ensures c.put_type.ensures c.high_at-count.ensures c.word_at-first.ensures)
-    c.in-Next.is c.walk_members-answer.ensures (sym c.type_name_at-name.ensures.0 ∙ c.in-Bad.is)
+    (entered c.requires c.if-levels-eq0.false (c.contains.ensures.value ∙ on_path_by_search _ _) c.if-contains.false c.if-capacity-n.false c.type_stride.ensures c.inside.ensures
+    c.if-not-inside.false c.type_node-node.ensures c.put_type.ensures c.high_at-count.ensures c.word_at-first.ensures)
+    c.in_ok-after.ensures (ap is_some (sym c.type_name_at-name.ensures.0) ∙ c.is_none.ensures ∙ ap not c.if-is_none.true)
+
+-- All members are walked, and the type's name is good.
+pub walk_type-returns : goal.walk_type-returns
+walk_type-returns t c =
+    arrives
+    (entered c.requires c.if-levels-eq0.false (c.contains.ensures.value ∙ on_path_by_search _ _) c.if-contains.false c.if-capacity-n.false c.type_stride.ensures c.inside.ensures
+    c.if-not-inside.false c.type_node-node.ensures c.put_type.ensures c.high_at-count.ensures c.word_at-first.ensures)
+    c.in_ok-after.ensures (ap is_some (sym c.type_name_at-name.ensures.0) ∙ c.is_none.ensures ∙ ap not c.if-is_none.false)

@@ -1,6 +1,6 @@
 -- `walk_members` and `walk_type` meet their contracts: each way out is one case of the walk. They end: the members of a type are walked with one level less,
 -- and their types with as many levels as the members. So `levels + levels` falls from a type to the types of its members, with the members' walk one above.
-use Rattle.std.proofs.Common.{◌+◌}
+use Rattle.std.proofs.Common.{◌+◌, ◌-◌}
 use Rattle.read_types.proofs.MembersWalk.{Going}
 use Rattle.read_types.proofs.+walk_members_walk_type.Given as goal
 
@@ -11,9 +11,6 @@ abbrev pub decreases-walk_type : goal.decreases-walk_type
 decreases-walk_type l = l.levels + l.levels
 
 -- The loop over the members.
-abbrev pub invariant-walk_members-loop-left : goal.invariant-walk_members-loop-left
-invariant-walk_members-loop-left l =
-    Going l.chunk l.sm5 l.first l.count l.levels l.capacity l.fn.counts l.fn.types l.fn.path l.types l.path l.next l.at l.left
-
-abbrev pub decreases-walk_members-loop-left : goal.decreases-walk_members-loop-left
-decreases-walk_members-loop-left l = l.left
+abbrev pub invariant-walk_members-loop : goal.invariant-walk_members-loop
+invariant-walk_members-loop l =
+    Going l.chunk l.sm5 l.first l.count l.levels l.capacity l.fn.counts l.fn.types l.fn.path l.types l.path l.next l.at (l.count - l.counter)

@@ -11,7 +11,7 @@ overflow_mul-i c =
 
 pub returns-then-i-table : goal.returns-then-i-table
 returns-then-i-table c =
-    let a = c.args in c.put_words.ensures ∙ sym (put_inside a.width a.table.now a.i a.row.now c.if-i-table.true)
+    let a = c.args in c.overwrite.ensures ∙ sym (put_inside a.width a.table.now a.i a.row.now c.if-i-table.true)
 
 pub returns-else-i-table : goal.returns-else-i-table
 returns-else-i-table c =

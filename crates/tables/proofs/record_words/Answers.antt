@@ -20,14 +20,14 @@ pub offset_bounds-table-at : goal.offset_bounds-table-at
 offset_bounds-table-at c =
     let a = c.args in omega (arith, record_inside a.width (length a.table.now) a.i c.if-i-held.true)
 
-pub slice_bounds-put_words-end-then-i-held : goal.slice_bounds-put_words-end-then-i-held
-slice_bounds-put_words-end-then-i-held c =
+pub slice_bounds-overwrite-end-then-i-held : goal.slice_bounds-overwrite-end-then-i-held
+slice_bounds-overwrite-end-then-i-held c =
     let a = c.args in omega (arith, record_inside a.width (length a.table.now) a.i c.if-i-held.true)
 
 pub returns-then-i-held : goal.returns-then-i-held
 returns-then-i-held c =
     let a = c.args in let t = a.table.now in let at = a.i * a.width in
-    λ k h. ap (λ (w : List ℕ). get_or w k 0) (c.put_words.ensures ∙ ap (λ (n : ℕ). splice (replicate type_width 0) 0 (take n (drop at t)))
+    λ k h. ap (λ (w : List ℕ). get_or w k 0) (c.overwrite.ensures ∙ ap (λ (n : ℕ). splice (replicate type_width 0) 0 (take n (drop at t)))
     (add-sub_cancel_left at a.width)) ∙ word_of_row a.width t a.i (replicate type_width 0) k (omega arith) c.if-i-held.true h
 
 pub returns-else-i-held : goal.returns-else-i-held

@@ -1,52 +1,51 @@
-use mathlib.Core.Path.{◌≡◌, sym, ap, ◌∙◌}
+use mathlib.Core.Path.{◌≡◌, sym, ◌∙◌}
 use mathlib.Core.Bool.{true, false}
-use Prim.Native.Nat.{◌+◌, ◌-◌}
 use native.Mathlib.Omega.{arith}
-use lib.ListN.{drop}
-use Rattle.text.specs.Strings.{until_nul}
-use Rattle.text.proofs.Strings.{until_nul_end, until_nul_here, until_nul_more, cstring_no_nul, cstring_ends, part_ascii}
-use Rattle.text.proofs.Strings.{flag_fallen, flag_kept}
+use borrow.Author.Count.{below_more}
+use borrow.Author.Tests.{ltb-true}
+use lib.Dec.{ltb}
+use lib.ListN.{get_or, take, drop, length-drop}
+use Rattle.std.proofs.lemmas.Bool.{and_parts}
+use Rattle.text.specs.Utf8.{well_formed}
+use Rattle.text.proofs.Strings.{until_nul_end, until_nul_more, cstring_no_nul, string_here, string_nowhere, part_ascii}
 use Rattle.text.proofs.cstring_at.Goals as goal
-use Rattle.text.proofs.cstring_at.Goals.{then-b-ge128, else-b-ge128}
+use Rattle.text.proofs.cstring_at.Goals.{then-ascii-via-then-ascii, then-ascii-via-else-ascii+then-utf8_ok}
 
-pub loop-i-init : goal.loop-i-init
-loop-i-init c =
-    let at = c.args.at in let none : 0 ≡ at - at = omega arith in
-    (omega arith, ap (until_nul (drop at c.args.s.now) at) none, λ e k h g. absurd (omega arith))
+pub returns-in_err-rest : goal.returns-in_err-rest
+returns-in_err-rest c =
+    let s = c.args.s.now in let at = c.args.at in
+    rw c.from_residual.ensures
+    (sym (cstring_no_nul s at (until_nul_end (drop at s) at 0 (omega (arith, c.in_err-rest.ensures.lookup.0, length-drop at s)))), tt)
 
 pub returns-then-ascii : goal.returns-then-ascii
 returns-then-ascii c =
-    let s = c.args.s.now in let at = c.args.at in let turn = c.loop-i in let i = turn.i in
-    let ends = turn.invariant.1 ∙ until_nul_here s at i (i - at) c.loop-i-test.true c.if-b-eq0.true in
-    let formed = part_ascii s at i turn.invariant.0 (omega arith) (turn.invariant.2 c.if-ascii.true) in
-    (sym (cstring_ends s at (i - at) true ends formed), omega arith)
-
-pub returns-then-utf8_ok : goal.returns-then-utf8_ok
-returns-then-utf8_ok c =
-    let s = c.args.s.now in let at = c.args.at in let turn = c.loop-i in let i = turn.i in
-    let ends = turn.invariant.1 ∙ until_nul_here s at i (i - at) c.loop-i-test.true c.if-b-eq0.true in
-    (sym (cstring_ends s at (i - at) true ends (sym c.utf8_ok.ensures ∙ c.if-utf8_ok.true)), omega arith)
+    let turn = c.loop-length in let rest = c.in_ok-rest.rest.now in let n = turn.length in let is = c.in_ok-rest.ensures.lookup.0 in
+    let formed : well_formed (take n rest) ≡ true =
+    elim c.then-ascii.branch [
+      | then-ascii-via-then-ascii w ↦ part_ascii rest n (omega arith) (turn.invariant.passed w.if-ascii.true)
+      | then-ascii-via-else-ascii+then-utf8_ok w ↦ sym w.utf8_ok.ensures ∙ w.if-utf8_ok.true
+    ] in
+    (sym (string_here c.args.s.now rest c.args.at n is.2 turn.invariant.scan true (omega arith) c.if-b-eq0.true formed), omega (arith, is.3))
 
 pub returns-then-b-eq0 : goal.returns-then-b-eq0
 returns-then-b-eq0 c =
-    let s = c.args.s.now in let at = c.args.at in let turn = c.loop-i in let i = turn.i in
-    let ends = turn.invariant.1 ∙ until_nul_here s at i (i - at) c.loop-i-test.true c.if-b-eq0.true in
-    (sym (cstring_ends s at (i - at) false ends (sym c.utf8_ok.ensures ∙ c.if-utf8_ok.false)), tt)
-
-pub loop-i-preserved : goal.loop-i-preserved
-loop-i-preserved c =
-    let s = c.args.s.now in let at = c.args.at in let turn = c.loop-i in let i = turn.i in
-    let longer : i - at + 1 ≡ i + 1 - at = omega arith in (
-      omega arith,
-      turn.invariant.1 ∙ until_nul_more s at i (i - at)
-          c.loop-i-test.true c.if-b-eq0.false ∙ ap (until_nul (drop (i + 1) s) at) longer,
-      elim c.if-b-ge128.branch [
-        | then-b-ge128 w ↦ flag_fallen s at i c.if-b-ge128.ascii w.ascii-is
-        | else-b-ge128 w ↦ flag_kept s at i c.if-b-ge128.ascii turn.ascii w.ascii-is turn.invariant.2 w.if-b-ge128.false
-      ],
+    let turn = c.loop-length in let rest = c.in_ok-rest.rest.now in let n = turn.length in let is = c.in_ok-rest.ensures.lookup.0 in (
+      sym (string_here c.args.s.now rest c.args.at n is.2 turn.invariant.scan false (omega arith) c.if-b-eq0.true
+          (sym c.utf8_ok.ensures ∙ c.if-utf8_ok.false)),
+      tt,
     )
+
+pub loop-length-preserved : goal.loop-length-preserved
+loop-length-preserved c =
+    let turn = c.loop-length in let rest = c.in_ok-rest.rest.now in let n = turn.length in
+    record {
+      scan = turn.invariant.scan ∙ until_nul_more rest c.args.at n (omega arith) c.if-b-eq0.false;
+      passed = λ e.
+          let (was, below) = and_parts turn.ascii (ltb (get_or rest n 0) 128) e in
+          below_more _ _ (turn.invariant.passed was) (ltb-true (get_or rest n 0) 128 below);
+    }
 
 pub returns : goal.returns
 returns c =
-    let s = c.args.s.now in let at = c.args.at in let turn = c.loop-i in
-    (sym (cstring_no_nul s at (turn.invariant.1 ∙ until_nul_end s at turn.i (turn.i - at) c.loop-i-test.false)), tt)
+    let turn = c.loop-length in
+    (sym (string_nowhere c.args.s.now c.in_ok-rest.rest.now c.args.at turn.length c.in_ok-rest.ensures.lookup.0.2 turn.invariant.scan (omega arith)), tt)

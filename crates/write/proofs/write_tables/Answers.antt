@@ -1,14 +1,14 @@
 -- `write_tables` meets its contract: each test of the code is a test of `write`, and what was put is the canonical form.
+use Rattle.reflection.specs.Outcome.{Outcome}
+use Rattle.std.specs.Prelude.{Ok}
 use mathlib.Core.Path.{◌≡◌, sym, ap, refl, ◌∙◌}
 use mathlib.Core.List.{List}
 use Prim.Native.Nat.{ℕ}
 use native.Mathlib.Omega.{arith}
 use lib.ListN.{length}
-use Rattle.reflection.specs.Outcome.{Outcome, ok}
 use Rattle.readable.specs.Readable.{table_contents}
 use Rattle.readable.proofs.ReadableTables.{readable_holds}
-use Rattle.text_output.specs.declared.Written.{Written}
-use Rattle.text_output.specs.Written.{fitting, written_of, output_of}
+use Rattle.text_output.specs.Written.{fitting, written_of, output_of, Written}
 use Rattle.write.specs.WriteInto.{WrittenInto}
 use Rattle.write.proofs.Answers.{short_scratch, unreadable, writable, chunk_answer, chunk_output}
 use Rattle.write.proofs.TablesSized.{texts_short, tables_sized, same_canonical}
@@ -46,7 +46,7 @@ returns-then-readable c =
     let held = readable_holds _ _ _ _ _ _ _ (sym c.readable.ensures ∙ c.if-readable.true) in
     let ended = c.write_chunk-at.ensures in
     let finished = c.finish.ensures in
-    let same = ap (λ (bytes : List ℕ). fitting (length a.out.now) (ok bytes)) (same_canonical held) in
+    let same = ap (λ (bytes : List ℕ). fitting (length a.out.now) (Ok bytes)) (same_canonical held) in
     let is = same ∙ sym (writable (length a.scratch.now) (length a.out.now) (omega (arith, c.if-scratch-lt-SCRATCH_WORDS.false)) held) in
     record {
       written = record {

@@ -4,5 +4,4 @@ use Rattle.write_pool.proofs.begin.Goals as goal
 
 pub returns : goal.returns
 returns c =
-    let pool = c.args.pool.now in
-    emptied_part_begun pool c.least-n.result c.least-n.ensures c.clear.new.words c.clear.ensures
+    emptied_part_begun c.args.pool.now c.min-n.result c.min-n.ensures c.fill.new.self (c.fill.ensures.after (λ y e. e))

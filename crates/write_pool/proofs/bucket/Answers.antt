@@ -1,51 +1,54 @@
-use mathlib.Core.Path.{refl, sym, ◌∙◌}
-use Prim.Native.Nat.{◌+◌, ◌<◌}
+use mathlib.Core.Path.{◌≡◌, refl, ap, sym, ◌∙◌}
+use Prim.Native.Nat.{ℕ, ◌+◌, ◌*◌, ◌/◌, ◌%◌}
+use mathlib.Core.List.{List, []}
 use native.Mathlib.Omega.{arith}
-use lib.ListN.{length}
-use Rattle.words.proofs.Parts.{inside_fits, outside_exceeds}
-use Rattle.write_pool.specs.Pool.{hash_of}
-use Rattle.write_pool.proofs.Hashes.{hash_with_word, bucket_at_end, bucket_with_rest}
+use borrow.Author.Tests.{eqb-true, eqb-false}
+use lib.ListN.{length, get_or}
+use Rattle.std.specs.Int.{from_le_bytes, w32}
+use Rattle.words.specs.Words.{word_at}
+use Rattle.write_pool.specs.Pool.{bucket_count, hash_of}
+use Rattle.write_pool.proofs.Hashes.{hash_with_word, bucket_at_end, chunk_word, word_dropped}
+use Rattle.write_pool.proofs.bucket.Goals.{then-not-is_empty, else-not-is_empty}
 use Rattle.write_pool.proofs.bucket.Goals as goal
 
-pub loop-hash-init : goal.loop-hash-init
+pub loop-word-init : goal.loop-word-init
 unfolding hash_of
-loop-hash-init c = (omega arith, omega arith, refl, refl)
+loop-word-init c = refl
 
-pub hash_more-hash-requires : goal.hash_more-hash-requires
-hash_more-hash-requires c = c.loop-hash.invariant.1
-
-pub loop-hash-smaller : goal.loop-hash-smaller
-loop-hash-smaller c =
+pub loop-word-preserved : goal.loop-word-preserved
+loop-word-preserved c =
+    let l = c.loop-word in
     let bytes = c.args.bytes.now in
-    omega (arith, inside_fits (length bytes) c.loop-hash.i 4 (sym c.inside.ensures ∙ c.loop-hash-test.true))
-
-pub loop-hash-preserved : goal.loop-hash-preserved
-loop-hash-preserved c =
-    let l = c.loop-hash in
-    let bytes = c.args.bytes.now in (
-      omega (arith, inside_fits (length bytes) l.i 4 (sym c.inside.ensures ∙ c.loop-hash-test.true)),
-      omega (arith, c.hash_more-hash.ensures),
-      omega (arith, l.invariant.2),
-      hash_with_word bytes l.i l.invariant.2 l.invariant.3 c.word_at.ensures c.hash_more-hash.ensures,
-    )
-
-pub hash_more-requires : goal.hash_more-requires
-hash_more-requires c = c.loop-hash.invariant.1
-
-pub returns-then-i-bytes : goal.returns-then-i-bytes
-returns-then-i-bytes c =
-    let l = c.loop-hash in
-    let bytes = c.args.bytes.now in
-    let no_word : length bytes < l.i + 4 = outside_exceeds (length bytes) l.i 4 (sym c.inside.ensures ∙ c.loop-hash-test.false) in
-    let more = hash_with_word bytes l.i l.invariant.2 l.invariant.3 c.word_at-then-i-bytes.ensures c.hash_more.ensures in (
-      c.hash_bucket.ensures ∙ bucket_with_rest bytes l.i l.invariant.2 l.invariant.3 c.if-i-bytes.true no_word more,
-      omega (arith, c.hash_bucket.ensures),
-    )
+    let cut = c.as_chunks.ensures in
+    let word =
+    c.from_le_bytes.ensures
+    ∙ ap (λ (ws : List (List ℕ)). from_le_bytes w32 (get_or ws l.word-index [])) cut.front
+    ∙ chunk_word (length bytes / 4) l.word-index bytes (omega (arith, cut.front_len, c.loop-word-test.true)) in
+    hash_with_word bytes l.word-index l.invariant word c.hash_more-hash.ensures
 
 pub returns : goal.returns
 returns c =
-    let l = c.loop-hash in
-    let bytes = c.args.bytes.now in (
-      c.hash_bucket-2.ensures ∙ bucket_at_end bytes l.i l.invariant.2 l.invariant.3 (omega (arith, c.if-i-bytes.false, l.invariant.0)),
-      omega (arith, c.hash_bucket-2.ensures),
+    let l = c.loop-word in
+    let bytes = c.args.bytes.now in
+    let cut = c.as_chunks.ensures in
+    let rest = length c.as_chunks.result.1.now in
+    let all : l.word-index ≡ length bytes / 4 = omega (arith, cut.front_len, l.auto.word-index-end, c.loop-word-test.false) in (
+      elim c.if-not-is_empty.branch [
+        | then-not-is_empty w ↦
+            let some = eqb-false rest 0 (sym c.is_empty.ensures ∙ w.if-not-is_empty.true) in
+            let word =
+            w.word_at.ensures
+            ∙ ap (λ (s : List ℕ). word_at s 0) cut.back
+            ∙ word_dropped bytes (length bytes / 4 * 4)
+            ∙ ap (λ (k : ℕ). word_at bytes (k * 4)) (sym all) in
+            c.hash_bucket.ensures
+            ∙ ap (λ (h : ℕ). h % 65521 % bucket_count) w.hash-is
+            ∙ bucket_at_end bytes (l.word-index + 1) (hash_with_word bytes l.word-index l.invariant word w.hash_more-hash-then-not-is_empty.ensures) (omega arith)
+        | else-not-is_empty w ↦
+            let none = eqb-true rest 0 (sym c.is_empty.ensures ∙ w.if-not-is_empty.false) in
+            c.hash_bucket.ensures
+            ∙ ap (λ (h : ℕ). h % 65521 % bucket_count) w.hash-is
+            ∙ bucket_at_end bytes l.word-index l.invariant (omega arith)
+      ],
+      omega (arith, c.hash_bucket.ensures),
     )

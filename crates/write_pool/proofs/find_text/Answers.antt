@@ -1,25 +1,15 @@
-use mathlib.Core.Path.{sym, ap, subst, ◌∙◌}
+use mathlib.Core.Path.{sym, ap, ◌∙◌}
 use Prim.Native.Nat.{ℕ, ◌+◌, ◌-◌}
 use native.Mathlib.Omega.{arith}
 use lib.ListN.{get_or}
 use Rattle.text.specs.Same.{same_bytes}
 use Rattle.write_pool.specs.Pool.{entry_text, entry_offset, entry_link}
-use Rattle.write_pool.proofs.Hashes.{bucket_is_below_count}
-use Rattle.write_pool.proofs.Links.{Searching, searching_begins, searching_ends, searching_goes_on, searching_finds_none, link_falls}
+use Rattle.write_pool.proofs.Links.{searching_begins, searching_ends, searching_goes_on, searching_finds_none, link_falls}
 use Rattle.write_pool.proofs.find_text.Goals as goal
-
-pub overflow_add-bucket : goal.overflow_add-bucket
-overflow_add-bucket c = omega (arith, bucket_is_below_count c.args.wanted.now)
-
-pub offset_bounds-pool-bucket : goal.offset_bounds-pool-bucket
-offset_bounds-pool-bucket c = omega (arith, bucket_is_below_count c.args.wanted.now)
-
-pub bounds-pool-bucket : goal.bounds-pool-bucket
-bounds-pool-bucket c = omega (arith, bucket_is_below_count c.args.wanted.now)
 
 pub loop-link-init : goal.loop-link-init
 loop-link-init c =
-    searching_begins _ _ _ _ c.requires.indexed (c.wide-link.ensures ∙ ap (λ (b : ℕ). get_or c.args.pool.now (1 + b) 0) c.requires.bucket_value)
+    searching_begins _ _ _ _ c.requires.indexed (ap (λ (b : ℕ). get_or c.args.pool.now (1 + b) 0) c.requires.bucket_value)
 
 pub returns-then-same_text : goal.returns-then-same_text
 unfolding entry_text entry_offset
@@ -31,15 +21,14 @@ returns-then-same_text c =
 pub loop-link-smaller : goal.loop-link-smaller
 unfolding entry_link
 loop-link-smaller c =
-    omega (arith, c.wide-link-in-loop-link.ensures, link_falls _ _ _ _ (c.loop-link.link - 1) (omega arith) c.loop-link.invariant c.requires.indexed)
+    link_falls _ _ _ _ (c.loop-link.link - 1) (omega arith) c.loop-link.invariant c.requires.indexed
 
 pub loop-link-preserved : goal.loop-link-preserved
 unfolding entry_text entry_link
 loop-link-preserved c =
     let a = c.args in
     let other = ap (same_bytes a.wanted.now) (sym c.name_part.ensures) ∙ sym c.same_text.ensures ∙ c.if-same_text.false in
-    subst (λ (n : ℕ). Searching a.chunk.now a.edits.now a.pool.now a.wanted.now n) (sym c.wide-link-in-loop-link.ensures)
-    (searching_goes_on _ _ _ _ (c.loop-link.link - 1) (omega arith) c.loop-link.invariant c.requires.indexed other)
+    searching_goes_on _ _ _ _ (c.loop-link.link - 1) (omega arith) c.loop-link.invariant c.requires.indexed other
 
 pub returns : goal.returns
 returns c =

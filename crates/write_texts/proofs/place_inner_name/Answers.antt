@@ -3,20 +3,12 @@ use mathlib.Core.Path.{refl}
 use Rattle.write_spec.specs.Layout.{place_inner_name}
 use Rattle.write_texts.specs.PlacedInPool.{inner_names}
 use Rattle.write_texts.specs.Scratch.{region, inner_pool}
-use Rattle.write_texts.proofs.PlacedInScratch.{pool_open, placed_past, placed_in_scratch}
+use Rattle.write_texts.proofs.PlacedInScratch.{pool_open, placed_in_scratch}
 use Rattle.write_texts.proofs.place_inner_name.Goals as goal
 
-pub returns-then-at-gt-CHUNK_LIMIT : goal.returns-then-at-gt-CHUNK_LIMIT
-returns-then-at-gt-CHUNK_LIMIT c = placed_past c.requires.pools_ready c.if-at-gt-CHUNK_LIMIT.true
-
-pub place_name_in_pool-requires : goal.place_name_in_pool-requires
+pub place_name_in_pool-requires-clause-has_room : goal.place_name_in_pool-requires-clause-has_room
 unfolding inner_pool region
-place_name_in_pool-requires c =
-    let pre = c.requires in record {
-      sources_fit = pre.sources_fit;
-      has_room = pool_open pre.pools_ready inner_names pre.scratch_bound;
-      at_le_farthest_offset = pre.at_le_farthest_offset;
-    }
+place_name_in_pool-requires-clause-has_room c = pool_open c.requires.pools_ready inner_names c.requires.scratch_bound
 
 pub returns : goal.returns
 unfolding inner_pool region place_inner_name

@@ -5,16 +5,14 @@ use native.Mathlib.Omega.{arith}
 use Rattle.words.proofs.Splice.{put_then}
 use Rattle.text_output.specs.Digits.{decimal}
 use Rattle.listing.specs.Listing.{scalars, pad_to}
-use Rattle.text_output.proofs.Digits.{decimal_at_most}
-use Rattle.listing.proofs.Padding.{length_padded, decimal_scalars}
+use Rattle.listing.proofs.Padding.{decimal_scalars}
 use Rattle.listing.proofs.column.put_number.Goals as goal
 
-pub returns : goal.returns
+pub returns-clause-text : goal.returns-clause-text
 unfolding pad_to
-returns c =
+returns-clause-text c =
     let n = c.args.n in
     let space = c.put_byte-start in
     let digits = c.put_decimal-end in
     let used : digits.result - space.result ≡ scalars (decimal n) = omega (arith, digits.ensures.text.next, decimal_scalars n) in
-    let put = put_then space.ensures (put_then digits.ensures.text (rw used at c.pad.ensures)) in
-    record { text = put; near = omega (arith, put.next, length_padded c.args.width (decimal n), decimal_at_most n) }
+    put_then space.ensures (put_then digits.ensures.text (rw used at c.pad.ensures))

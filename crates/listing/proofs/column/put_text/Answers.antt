@@ -2,5 +2,5 @@
 use Rattle.words.proofs.Splice.{put_then}
 use Rattle.listing.proofs.column.put_text.Goals as goal
 
-pub returns : goal.returns
-returns c = put_then c.put_byte-start.ensures c.put_padded.ensures.text
+pub returns-clause-text : goal.returns-clause-text
+returns-clause-text c = put_then c.put_byte-start.ensures c.put_padded.ensures.text

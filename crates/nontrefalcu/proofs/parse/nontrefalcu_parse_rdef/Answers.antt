@@ -1,12 +1,12 @@
 -- `nontrefalcu_parse_rdef` meets its contract: the tables are as the reader left them, and its answer gives the number and the header's words.
-use mathlib.Core.Path.{◌≡◌}
+use Rattle.reflection.specs.Outcome.{Outcome}
+use Rattle.read.specs.Answer.{Parsed}
+use mathlib.Core.Path.{◌≡◌, ◌∙◌}
 use mathlib.Core.List.{List}
 use Prim.Native.Nat.{ℕ}
 use lib.ListN.{length}
 use Rattle.reflection.specs.declared.Text.{Text}
-use Rattle.reflection.specs.Outcome.{Outcome}
 use Rattle.reflection.specs.Reflection.{ResourceDef}
-use Rattle.read.specs.declared.Parsed.{Parsed}
 use Rattle.read.specs.Parsed.{ParsedInto}
 use Rattle.nontrefalcu.specs.Exports.{number_of, header_table}
 use Rattle.nontrefalcu.specs.Left.{ParseLeft}
@@ -27,14 +27,14 @@ left-of answer header into = record {
   types = into.types;
 }
 
-pub returns-in-Refused : goal.returns-in-Refused
-returns-in-Refused c =
+pub returns-in-Err : goal.returns-in-Err
+returns-in-Err c =
     let zeros = c.clear.ensures in let into = c.parse_rdef-parsed.ensures in
-    let outcome = parsed_refused _ into.answer c.in-Refused.is in
-    left-of (refused_number outcome) (refused_table _ _ zeros outcome) into
+    let outcome = parsed_refused _ into.answer c.in-Err.is in
+    left-of (c.from.ensures ∙ refused_number outcome) (refused_table _ _ zeros outcome) into
 
-pub returns-in-Read : goal.returns-in-Read
-returns-in-Read c =
-    let put = c.put_words.ensures in let words = c.header_words-words.ensures in let zeros = c.clear.ensures in
+pub returns-in-Ok : goal.returns-in-Ok
+returns-in-Ok c =
+    let put = c.overwrite.ensures in let words = c.header_words-words.ensures in let zeros = c.clear.ensures in
     let into = c.parse_rdef-parsed.ensures in
-    left-of (read_number _ into.answer c.in-Read.is) (read_header _ _ into.answer c.in-Read.is zeros words put) into
+    left-of (read_number _ into.answer c.in-Ok.is) (read_header _ _ into.answer c.in-Ok.is zeros words put) into

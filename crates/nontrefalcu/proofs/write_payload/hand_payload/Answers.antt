@@ -1,34 +1,21 @@
 -- `hand_payload` meets its contract: the answer as an outcome has its number, and its two words on the cleared ones.
-use mathlib.Core.Path.{refl, ap}
-use Rattle.nontrefalcu.specs.PayloadWords.{payload_outcome}
+use Rattle.std.specs.Prelude.{Ok}
+use mathlib.Core.Path.{refl, ap, subst, ◌∙◌}
+use Rattle.nontrefalcu.specs.PayloadWords.{payload_outcome, PayloadFits}
 use Rattle.nontrefalcu.proofs.HandedOut.{value_number, refused_number, value_table, refused_table}
-use Rattle.nontrefalcu.proofs.PayloadAnswers.{chunk-fits, output_fits}
-use native.Mathlib.Omega.{arith}
-use borrow.Author.Rules.{rules}
 use Rattle.nontrefalcu.proofs.write_payload.hand_payload.Goals as goal
 
-pub overflow_cast-two : goal.overflow_cast-two
-overflow_cast-two c =
-    omega (arith, chunk-fits _ c.requires c.in-Chunk.is)
+pub payload_words-requires : goal.payload_words-requires
+payload_words-requires c = subst (PayloadFits c.args.chunk_length) c.in-Ok.is c.requires
 
-pub overflow_cast-two-in-Output : goal.overflow_cast-two-in-Output
-overflow_cast-two-in-Output c =
-    let fits = output_fits _ c.requires c.in-Output.is in search rules
-
-pub returns-in-Refused : goal.returns-in-Refused
+pub returns-in-Err : goal.returns-in-Err
 unfolding payload_outcome
-returns-in-Refused c =
-    let a = c.args in let refusal = ap (payload_outcome a.chunk_length) c.in-Refused.is in
-    record { answer = refused_number refusal; words = refused_table _ _ c.clear.ensures refusal }
+returns-in-Err c =
+    let a = c.args in let refusal = ap (payload_outcome a.chunk_length) c.in-Err.is in
+    record { answer = c.from.ensures ∙ refused_number refusal; words = refused_table _ _ c.clear.ensures refusal }
 
-pub returns-in-Chunk : goal.returns-in-Chunk
+pub returns-in-Ok : goal.returns-in-Ok
 unfolding payload_outcome
-returns-in-Chunk c =
-    let a = c.args in let whole = ap (payload_outcome a.chunk_length) c.in-Chunk.is in
-    record { answer = value_number whole; words = value_table _ _ c.clear.ensures whole refl c.put_words.ensures }
-
-pub returns-in-Output : goal.returns-in-Output
-unfolding payload_outcome
-returns-in-Output c =
-    let a = c.args in let wrote = ap (payload_outcome a.chunk_length) c.in-Output.is in
-    record { answer = value_number wrote; words = value_table _ _ c.clear.ensures wrote refl c.put_words-in-Output.ensures }
+returns-in-Ok c =
+    let a = c.args in let handed = ap (payload_outcome a.chunk_length) c.in-Ok.is in
+    record { answer = value_number handed; words = value_table _ _ c.clear.ensures handed c.payload_words.ensures c.overwrite.ensures }

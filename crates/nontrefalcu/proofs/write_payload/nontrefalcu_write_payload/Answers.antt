@@ -1,8 +1,8 @@
 -- `nontrefalcu_write_payload` meets its contract: the answer is that of `write_payload` for the header that the words are.
+use Rattle.reflection.specs.Outcome.{Outcome}
 use mathlib.Core.Path.{ap, ◌∙◌}
 use lib.ListN.{length}
 use Rattle.reflection.specs.declared.ResourceDef.{ResourceDef as Header}
-use Rattle.reflection.specs.Outcome.{Outcome}
 use Rattle.readable.specs.Readable.{table_contents}
 use Rattle.write_spec.specs.Payload.{Part}
 use Rattle.payload.specs.Answer.{room_enough, payload_with, payload_output}

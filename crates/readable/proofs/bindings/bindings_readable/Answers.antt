@@ -1,33 +1,17 @@
-use mathlib.Core.Path.{refl, sym, ap, ◌∙◌}
-use native.Mathlib.Omega.{arith}
-use Rattle.readable.specs.Checks.{binding_checked}
-use Rattle.readable.proofs.Bools.{both_fails, both_goes_on}
-use Rattle.readable.proofs.RecordTests.{bindings_none, bindings_next}
+-- `bindings_readable` meets its contract: it asks each binding in turn. Assumes nothing.
+use mathlib.Core.Path.{refl, ◌∙◌}
+use borrow.Author.Tests.{tests}
+use Rattle.std.proofs.Common.{arith, rules}
+use Rattle.std.proofs.lemmas.Iterator.{YieldsList-from_range}
+use Rattle.std.proofs.lemmas.Iterator.Search.{all_from_yields_List}
+use Rattle.tables.specs.Records.{binding_at}
+use Rattle.readable.specs.Checks.{binding_checked, bindings_checked}
+use Rattle.readable.proofs.RecordTests.{every_record}
 use Rattle.readable.proofs.bindings.bindings_readable.Goals as goal
 
-pub loop-left-init : goal.loop-left-init
-loop-left-init c = (refl, omega arith)
-
-pub returns-then-not-binding_readable : goal.returns-then-not-binding_readable
-returns-then-not-binding_readable c =
-    sym (c.loop-left.invariant.0 ∙ bindings_next c.args.chunk.now c.args.edits.now c.args.wide
-    c.args.table.now c.loop-left.i c.loop-left.left c.loop-left-test.true
-    ∙ both_fails _ _ (sym (c.binding_readable.ensures
-    ∙ ap (binding_checked c.args.chunk.now c.args.edits.now c.args.wide) c.binding_at-b.ensures)
-    ∙ c.if-not-binding_readable.true))
-
-pub loop-left-preserved : goal.loop-left-preserved
-loop-left-preserved c = (
-  c.loop-left.invariant.0 ∙ bindings_next c.args.chunk.now c.args.edits.now c.args.wide
-      c.args.table.now c.loop-left.i c.loop-left.left c.loop-left-test.true
-      ∙ both_goes_on _ _ (sym (c.binding_readable.ensures
-      ∙ ap (binding_checked c.args.chunk.now c.args.edits.now c.args.wide) c.binding_at-b.ensures)
-      ∙ c.if-not-binding_readable.false),
-  omega arith,
-)
-
 pub returns : goal.returns
+unfolding bindings_checked
 returns c =
-    sym (c.loop-left.invariant.0
-    ∙ bindings_none c.args.chunk.now c.args.edits.now c.args.wide c.args.table.now c.loop-left.i
-    c.loop-left.left c.loop-left-test.false)
+    all_from_yields_List (λ i. binding_checked c.args.chunk.now c.args.edits.now c.args.wide (binding_at c.args.table.now i)) _ _ _ c.all.ensures.ran
+    (YieldsList-from_range 0 c.args.count c.args.count refl (omega arith)) (λ x b q k. search (rules, tests))
+    ∙ every_record (binding_checked c.args.chunk.now c.args.edits.now c.args.wide) (binding_at c.args.table.now) 0 c.args.count

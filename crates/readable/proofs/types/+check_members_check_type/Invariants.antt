@@ -10,10 +10,10 @@ decreases-check_members l = l.levels + l.levels + 1
 abbrev pub decreases-check_type : goal.decreases-check_type
 decreases-check_type l = l.levels + l.levels
 
-abbrev pub invariant-check_members-loop-left : goal.invariant-check_members-loop-left
-invariant-check_members-loop-left l =
-    (members_left (type_left (node_checked l.chunk l.edits l.sm5) true l.levels) l.n (nodes_from l.types l.k (l.count - l.k))
-    ≡ members_left (type_left (node_checked l.chunk l.edits l.sm5) true l.levels) l.left (nodes_from l.types l.next (l.count - l.next))) × (l.next ≤ l.count)
-
-abbrev pub decreases-check_members-loop-left : goal.decreases-check_members-loop-left
-decreases-check_members-loop-left l = l.left
+abbrev pub invariant-check_members-loop : goal.invariant-check_members-loop
+invariant-check_members-loop l =
+    let walk = type_left (node_checked l.chunk l.edits l.sm5) true l.levels in
+    record {
+      left : members_left walk l.n (nodes_from l.types l.k (l.count - l.k)) ≡ members_left walk (l.n - l.counter) (nodes_from l.types l.next (l.count - l.next));
+      within : l.next ≤ l.count;
+    }

@@ -1,20 +1,41 @@
--- `put_dimensions` meets its contract: by the class that `from_u32` finds, or nothing.
-use mathlib.Core.Path.{sym, ap, ◌∙◌}
-use native.Mathlib.Omega.{arith}
+-- `put_dimensions` meets its contract: by the class that the number is, or nothing.
+use mathlib.Core.List.{[]}
+use mathlib.Core.Path.{◌∙◌}
+use Rattle.text_output.specs.Digits.{decimal}
+use mathlib.Core.Logic.{inl, inr}
 use Rattle.words.proofs.Splice.{put_none}
-use Rattle.codes.specs.Variable.{class_answer}
-use Rattle.spelling.proofs.WritePieces.{class_known, class_unknown}
+use Rattle.spelling.proofs.WritePieces.{class_read, class_unread}
 use Rattle.spelling.proofs.write.put_dimensions.Goals as goal
 
-pub returns-in-Known : goal.returns-in-Known
-returns-in-Known c =
+pub returns-in_err-known-clause-text : goal.returns-in_err-known-clause-text
+returns-in_err-known-clause-text c =
     let a = c.args in
-    let found = sym (ap class_answer c.in-Known.is) ∙ c.from_u32.ensures in
-    let put = c.put_class_dimensions.ensures in
-    record { text = rw (class_known a.class a.rows a.columns c.in-Known.known found) put.text; near = put.near }
+    let e = class_unread a.class a.rows a.columns c.try_from.result c.try_from.ensures.0 c.in_err-known.ensures.value in
+    rw c.from_residual.ensures e
 
-pub returns-in-Unknown : goal.returns-in-Unknown
-returns-in-Unknown c =
+pub returns-in-Scalar-clause-text : goal.returns-in-Scalar-clause-text
+returns-in-Scalar-clause-text c =
     let a = c.args in
-    let found = sym (ap class_answer c.in-Unknown.is) ∙ c.from_u32.ensures in
-    record { text = rw (class_unknown a.class a.rows a.columns found) (put_none a.out.now a.at); near = omega arith }
+    let e = class_read a.class a.rows a.columns c.in_ok-known.known c.try_from.result c.try_from.ensures.0 c.in_ok-known.ensures.value in
+    ([], (e ∙ rw c.in-Scalar.is, put_none a.out.now a.at))
+
+pub returns-in-Vector-clause-text : goal.returns-in-Vector-clause-text
+returns-in-Vector-clause-text c =
+    let a = c.args in
+    let e = class_read a.class a.rows a.columns c.in_ok-known.known c.try_from.result c.try_from.ensures.0 c.in_ok-known.ensures.value in
+    (decimal a.columns, (e ∙ rw c.in-Vector.is, c.put_decimal.ensures.text))
+
+pub returns-in-MatrixRows-clause-text : goal.returns-in-MatrixRows-clause-text
+returns-in-MatrixRows-clause-text c =
+    let a = c.args in
+    let e = class_read a.class a.rows a.columns c.in_ok-known.known c.try_from.result c.try_from.ensures.0 c.in_ok-known.ensures.value in
+    (_, (e ∙ elim c.in-MatrixRows.is [ inl x ↦ rw x | inr x ↦ rw x ], c.put_matrix.ensures.text))
+
+pub returns-in-Object-clause-text : goal.returns-in-Object-clause-text
+returns-in-Object-clause-text c =
+    let a = c.args in
+    let e = class_read a.class a.rows a.columns c.in_ok-known.known c.try_from.result c.try_from.ensures.0 c.in_ok-known.ensures.value in
+    e ∙ elim c.in-Object.is [
+      | inl x ↦ rw x
+      | inr other ↦ elim other [ inl x ↦ rw x | inr other ↦ elim other [ inl x ↦ rw x | inr x ↦ rw x ] ]
+    ]

@@ -1,11 +1,6 @@
 -- `put_matrix` meets its contract: rows, `x`, columns.
-use native.Mathlib.Omega.{arith}
 use Rattle.words.proofs.Splice.{put_then}
 use Rattle.spelling.proofs.write.put_matrix.Goals as goal
 
-pub returns : goal.returns
-returns c =
-    let rows = c.put_decimal-after_rows.ensures in
-    let x = c.put_byte-after_x.ensures in
-    let columns = c.put_decimal.ensures in
-    record { text = put_then rows.text (put_then x columns.text); near = omega (arith, rows.near, x.next, columns.near) }
+pub returns-clause-text : goal.returns-clause-text
+returns-clause-text c = put_then c.put_decimal-after_rows.ensures.text (put_then c.put_byte-after_x.ensures c.put_decimal.ensures.text)

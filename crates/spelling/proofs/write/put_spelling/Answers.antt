@@ -1,22 +1,40 @@
 -- `put_spelling` meets its contract: the own name, or base, dimensions and suffix in a row.
 use mathlib.Core.Path.{sym, ◌∙◌}
-use native.Mathlib.Omega.{arith}
 use Rattle.words.proofs.Splice.{put_then}
-use Rattle.spelling.proofs.WritePieces.{own_name_bytes, numbers_bytes}
+use Rattle.spelling.proofs.WritePieces.{own_named, own_nameless, base_read, base_unread}
+use Rattle.spelling.proofs.WritePieces.{no_base, no_dimensions, base_and_dimensions}
 use Rattle.spelling.proofs.write.put_spelling.Goals as goal
 
-pub returns-then-by_name : goal.returns-then-by_name
-returns-then-by_name c =
+pub returns-then-is_empty-clause-text : goal.returns-then-is_empty-clause-text
+returns-then-is_empty-clause-text c =
     let a = c.args in
-    let p = c.put_bytes.ensures in
-    record { text = rw (own_name_bytes a.name.now a.t (sym c.by_name.ensures ∙ c.if-by_name.true)) p; near = omega (arith, p.next) }
+    own_nameless a.name.now a.t (sym c.by_name.ensures ∙ c.if-by_name.true) (sym c.is_empty.ensures ∙ c.if-is_empty.true)
 
-pub returns : goal.returns
-returns c =
+pub returns-then-by_name-clause-text : goal.returns-then-by_name-clause-text
+returns-then-by_name-clause-text c =
     let a = c.args in
-    let base = c.put_base-base.ensures in
-    let dims = c.put_dimensions-core.ensures in
-    let suffix = c.put_suffix.ensures in
+    let named = own_named a.name.now a.t (sym c.by_name.ensures ∙ c.if-by_name.true) (sym c.is_empty.ensures ∙ c.if-is_empty.false) in
+    (a.name.now, (named, c.put_bytes.ensures))
+
+pub returns-in_err-known-clause-text : goal.returns-in_err-known-clause-text
+returns-in_err-known-clause-text c =
+    let a = c.args in
     let numbers = sym c.by_name.ensures ∙ c.if-by_name.false in
-    let pieces = numbers_bytes a.name.now a.t numbers c.requires.spelled in
-    record { text = rw pieces (put_then base.text (put_then dims.text suffix.text)); near = omega (arith, base.near, dims.near, suffix.near) }
+    let none = base_unread a.t.var_type c.try_from.result c.try_from.ensures.0 c.in_err-known.ensures.value in
+    rw c.from_residual.ensures (no_base a.name.now a.t numbers none)
+
+pub returns-in_err-core-clause-text : goal.returns-in_err-core-clause-text
+returns-in_err-core-clause-text c =
+    let a = c.args in
+    let numbers = sym c.by_name.ensures ∙ c.if-by_name.false in
+    let base = base_read a.t.var_type c.in_ok-known.known c.try_from.result c.try_from.ensures.0 c.in_ok-known.ensures.value in
+    rw c.from_residual-in_err-core.ensures (no_dimensions a.name.now a.t numbers base c.in_err-core.ensures.text)
+
+pub returns-clause-text : goal.returns-clause-text
+returns-clause-text c =
+    let a = c.args in
+    let numbers = sym c.by_name.ensures ∙ c.if-by_name.false in
+    let base = base_read a.t.var_type c.in_ok-known.known c.try_from.result c.try_from.ensures.0 c.in_ok-known.ensures.value in
+    let (dims, (is, put)) = c.in_ok-core.ensures.text in
+    let name = rw c.base_name.ensures at c.put_bytes-base.ensures in
+    (_, (base_and_dimensions a.name.now a.t numbers base is, put_then name (put_then put c.put_suffix.ensures.text)))

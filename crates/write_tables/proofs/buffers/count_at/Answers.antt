@@ -6,4 +6,4 @@ use Rattle.write_tables.proofs.buffers.count_at.Goals as goal
 
 pub returns : goal.returns
 unfolding count_at
-returns c = ap (λ (b : BufferRecord). b.variable_count) c.buffer_at-fields.ensures
+returns c = ap (λ (b : BufferRecord). b.variable_count) c.buffer_at.ensures

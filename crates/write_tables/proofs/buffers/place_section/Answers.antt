@@ -42,22 +42,6 @@ pub overflow_cast-scratch : goal.overflow_cast-scratch
 overflow_cast-scratch c =
     omega (arith, start_near c.requires c.count_at-count.ensures c.put_padding-start.ensures)
 
-pub overflow_mul-scratch : goal.overflow_mul-scratch
-overflow_mul-scratch c = omega (arith, c.requires.few_buffers)
-
-pub overflow_add-scratch : goal.overflow_add-scratch
-overflow_add-scratch c = omega (arith, c.requires.few_buffers)
-
-pub overflow_add-scratch-2 : goal.overflow_add-scratch-2
-overflow_add-scratch-2 c = omega (arith, c.requires.few_buffers)
-
-pub offset_bounds-scratch-buffer : goal.offset_bounds-scratch-buffer
-offset_bounds-scratch-buffer c = omega (arith, c.requires.few_buffers)
-
-pub bounds-scratch-buffer : goal.bounds-scratch-buffer
-bounds-scratch-buffer c =
-    omega (arith, c.requires.few_buffers, c.place_variables-reached.ensures.advance.ready.long)
-
 pub returns : goal.returns
 returns c =
     section_placed c.requires c.count_at-count.ensures c.variable_size.ensures.1 c.put_padding-start.ensures

@@ -9,9 +9,6 @@ pub place_section-cursor-requires : goal.place_section-cursor-requires
 place_section-cursor-requires c =
     section_ready c.requires c.loop-buffer.invariant c.loop-buffer-test.true
 
-pub count_at-variable-requires : goal.count_at-variable-requires
-count_at-variable-requires c = tt
-
 pub overflow_add-variable : goal.overflow_add-variable
 overflow_add-variable c =
     omega (arith, next_below c.requires c.loop-buffer.invariant c.loop-buffer-test.true c.count_at-variable.ensures)
@@ -20,12 +17,6 @@ pub loop-buffer-preserved : goal.loop-buffer-preserved
 loop-buffer-preserved c =
     sections_more c.requires c.loop-buffer.invariant c.loop-buffer-test.true c.count_at-variable.ensures
     c.place_section-cursor.ensures
-
-pub shape_of-scratch : goal.shape_of-scratch
-shape_of-scratch c = c.loop-buffer.invariant.advance.long
-
-pub shape_of-out : goal.shape_of-out
-shape_of-out c = c.loop-buffer.invariant.out_long
 
 pub returns : goal.returns
 returns c = sections_all c.loop-buffer.invariant c.loop-buffer-test.false

@@ -1,8 +1,7 @@
 use mathlib.Core.Path.{sym}
 use native.Mathlib.Nat.{zero-add}
 use native.Mathlib.Omega.{arith}
-use Rattle.words.proofs.Splice.{put_length}
-use Rattle.write_tables.proofs.Rows.{rows_none, rows_more, rows_all, rows_near, short_binding_row}
+use Rattle.write_tables.proofs.Rows.{rows_none, rows_more, rows_near, short_binding_row}
 use Rattle.write_tables.proofs.records.put_binding_records.Goals as goal
 
 pub loop-i-init : goal.loop-i-init
@@ -17,9 +16,3 @@ pub loop-i-preserved : goal.loop-i-preserved
 loop-i-preserved c =
     rows_more c.loop-i.invariant c.loop-i-test.true
     (sym (zero-add c.loop-i.i)) c.put_binding_record-to.ensures
-
-pub shape_of-out : goal.shape_of-out
-shape_of-out c = put_length c.loop-i.invariant.put
-
-pub returns : goal.returns
-returns c = rows_all c.loop-i.invariant c.loop-i-test.false

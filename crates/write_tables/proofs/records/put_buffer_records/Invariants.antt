@@ -1,11 +1,7 @@
 -- `put_buffer_records` meets its contract: the loop's invariant is that the first i rows were put.
-use Prim.Native.Nat.{◌-◌}
 use Rattle.write_tables.specs.Offsets.{buffer_row}
 use Rattle.write_tables.proofs.Rows.{RowsSoFar}
 use Rattle.write_tables.proofs.records.put_buffer_records.Given as goal
 
 abbrev pub invariant-loop-i : goal.invariant-loop-i
 invariant-loop-i l = RowsSoFar (buffer_row l.buffers l.scratch) 0 l.count l.at l.initial.out l.out l.to l.i
-
-abbrev pub decreases-loop-i : goal.decreases-loop-i
-decreases-loop-i l = l.count - l.i

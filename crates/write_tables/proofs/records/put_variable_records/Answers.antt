@@ -1,7 +1,6 @@
 use mathlib.Core.Path.{refl}
 use native.Mathlib.Omega.{arith}
-use Rattle.words.proofs.Splice.{put_length}
-use Rattle.write_tables.proofs.Rows.{rows_none, rows_more, rows_all, rows_near, short_variable_row}
+use Rattle.write_tables.proofs.Rows.{rows_none, rows_more, rows_near, short_variable_row}
 use Rattle.write_tables.proofs.records.put_variable_records.Goals as goal
 
 pub loop-i-init : goal.loop-i-init
@@ -16,9 +15,3 @@ pub loop-i-preserved : goal.loop-i-preserved
 loop-i-preserved c =
     rows_more c.loop-i.invariant c.loop-i-test.true refl
     c.put_variable_record-to.ensures
-
-pub shape_of-out : goal.shape_of-out
-shape_of-out c = put_length c.loop-i.invariant.put
-
-pub returns : goal.returns
-returns c = rows_all c.loop-i.invariant c.loop-i-test.false

@@ -1,6 +1,5 @@
 -- `place_variable` meets its contract: its name, its type and its default were placed in turn, and the offsets stored.
-use native.Mathlib.Omega.{arith}
-use Rattle.write_tables.proofs.OneVariable.{name_room, root_room, offsets_room, type_ready, default_room_lem, variable_placed}
+use Rattle.write_tables.proofs.OneVariable.{name_room, root_room, type_ready, default_room_lem, variable_placed}
 use Rattle.write_tables.proofs.variables.place_variable.Goals as goal
 
 pub place_inner_name-name-requires : goal.place_inner_name-name-requires
@@ -31,13 +30,7 @@ place_default-default-requires c =
       at_le_farthest_offset = room.1;
     }
 
-pub overflow_mul-variable : goal.overflow_mul-variable
-overflow_mul-variable c = omega (arith, offsets_room c.requires)
-
-pub overflow_add-variable : goal.overflow_add-variable
-overflow_add-variable c = omega (arith, offsets_room c.requires)
-
 pub returns : goal.returns
 returns c =
     variable_placed c.requires c.args.variables.now c.variable_at-fields.ensures c.place_inner_name-name.ensures
-    c.place_root_type-kind.ensures c.place_default-default.ensures c.put_words.ensures
+    c.place_root_type-kind.ensures c.place_default-default.ensures c.overwrite.ensures

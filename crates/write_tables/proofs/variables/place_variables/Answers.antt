@@ -1,12 +1,8 @@
-use native.Mathlib.Omega.{arith}
 use Rattle.write_tables.proofs.VariablesLoop.{variables_none, one_ready, variables_more, variables_all}
 use Rattle.write_tables.proofs.variables.place_variables.Goals as goal
 
 pub loop-placed-init : goal.loop-placed-init
 loop-placed-init c = variables_none c.requires
-
-pub overflow_add-variable : goal.overflow_add-variable
-overflow_add-variable c = omega (arith, c.requires.few_variables)
 
 pub place_variable-reached-requires : goal.place_variable-reached-requires
 place_variable-reached-requires c =
@@ -15,12 +11,6 @@ place_variable-reached-requires c =
 pub loop-placed-preserved : goal.loop-placed-preserved
 loop-placed-preserved c =
     variables_more c.requires c.loop-placed.invariant c.loop-placed-test.true c.place_variable-reached.ensures
-
-pub shape_of-scratch : goal.shape_of-scratch
-shape_of-scratch c = c.loop-placed.invariant.advance.long
-
-pub shape_of-out : goal.shape_of-out
-shape_of-out c = c.loop-placed.invariant.out_long
 
 pub returns : goal.returns
 returns c = variables_all c.loop-placed.invariant c.loop-placed-test.false

@@ -1,14 +1,9 @@
 -- `find_type` meets its contract. The invariant of its loop: what is looked up among all entries is what is looked up among those that are left.
 use mathlib.Core.Path.{◌≡◌}
-use Prim.Native.Nat.{◌≤◌}
 use Rattle.write_types.specs.TypePlaced.{type_offset}
 use Rattle.write_types.proofs.find.find_type.Given as goal
 
-abbrev pub invariant-loop-left : goal.invariant-loop-left
-invariant-loop-left l =
-    (l.left ≤ l.count)
-    × (type_offset l.chunk l.edits l.types l.levels l.node l.scratch l.start l.base l.count
-    ≡ type_offset l.chunk l.edits l.types l.levels l.node l.scratch l.start l.base l.left)
-
-abbrev pub decreases-loop-left : goal.decreases-loop-left
-decreases-loop-left l = l.left
+abbrev pub invariant-loop-i : goal.invariant-loop-i
+invariant-loop-i l =
+    type_offset l.chunk l.edits l.types l.levels l.node l.scratch l.start l.base l.count
+    ≡ type_offset l.chunk l.edits l.types l.levels l.node l.scratch l.start l.base l.i

@@ -1,11 +1,14 @@
 -- `put_records` meets its contract: nothing where there are no members, else padding and the words.
+use mathlib.Core.Path.{sym, ◌∙◌}
 use native.Mathlib.Omega.{arith}
+use borrow.Author.Tests.{eqb-true, eqb-false}
+use lib.ListN.{length}
 use Rattle.write_types.proofs.Putting.{padding_near, records_none, records_some}
 use Rattle.write_types.proofs.put.put_records.Goals as goal
 
-pub returns-then-records-eq0 : goal.returns-then-records-eq0
-returns-then-records-eq0 c = let args = c.args in
-    records_none args.records.now args.out.now args.at c.if-records-eq0.true
+pub returns-then-is_empty : goal.returns-then-is_empty
+returns-then-is_empty c = let args = c.args in
+    records_none args.records.now args.out.now args.at (eqb-true (length args.records.now) 0 (sym c.is_empty.ensures ∙ c.if-is_empty.true))
 
 pub put_word_bytes-end-requires : goal.put_word_bytes-end-requires
 put_word_bytes-end-requires c =
@@ -17,5 +20,5 @@ overflow_cast-result c =
 
 pub returns : goal.returns
 returns c =
-    records_some c.args.records.now c.if-records-eq0.false c.put_padding-start.ensures
+    records_some c.args.records.now (eqb-false (length c.args.records.now) 0 (sym c.is_empty.ensures ∙ c.if-is_empty.false)) c.put_padding-start.ensures
     c.put_word_bytes-end.ensures

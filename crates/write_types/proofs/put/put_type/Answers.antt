@@ -7,13 +7,6 @@ use Rattle.write_texts.specs.Scratch.{member_width}
 use Rattle.write_types.proofs.Putting.{padding_near, type_put}
 use Rattle.write_types.proofs.put.put_type.Goals as goal
 
-pub put_padding-start-requires : goal.put_padding-start-requires
-put_padding-start-requires c =
-    omega (arith, c.put_records-members.ensures.near, c.requires)
-
-pub overflow_cast-count : goal.overflow_cast-count
-overflow_cast-count c = omega (arith, c.requires)
-
 pub put_descriptor-end-requires : goal.put_descriptor-end-requires
 put_descriptor-end-requires c =
     omega (

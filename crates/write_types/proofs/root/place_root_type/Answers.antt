@@ -4,50 +4,31 @@ use Rattle.write_types.proofs.Ready.{node_early}
 use Rattle.write_types.proofs.RootType.{root_past, root_found, root_shared, root_unshared}
 use Rattle.write_types.proofs.root.place_root_type.Goals as goal
 
-pub skip_type-requires : goal.skip_type-requires
-skip_type-requires c = omega (arith, node_early c.requires.type_ready)
+pub skip_type-node-requires : goal.skip_type-node-requires
+skip_type-node-requires c = omega (arith, node_early c.requires.type_ready)
 
 pub returns-then-cursor-gt-CHUNK_LIMIT : goal.returns-then-cursor-gt-CHUNK_LIMIT
 returns-then-cursor-gt-CHUNK_LIMIT c =
-    root_past c.requires.type_ready c.if-cursor-gt-CHUNK_LIMIT.true c.skip_type.ensures
+    root_past c.requires.type_ready c.if-cursor-gt-CHUNK_LIMIT.true c.skip_type-node.ensures
 
 pub find_shared-requires : goal.find_shared-requires
 find_shared-requires c =
     (omega (arith, c.requires.root_types_bound, c.requires.type_ready.ready.long), omega (arith, node_early c.requires.type_ready))
 
-pub skip_type-requires-in-At : goal.skip_type-requires-in-At
-skip_type-requires-in-At c = omega (arith, node_early c.requires.type_ready)
+pub skip_type-node-requires-in-Some : goal.skip_type-node-requires-in-Some
+skip_type-node-requires-in-Some c = omega (arith, node_early c.requires.type_ready)
 
-pub write_type-placed-requires : goal.write_type-placed-requires
-write_type-placed-requires c = c.requires.type_ready
-
-pub overflow_cast-entry : goal.overflow_cast-entry
-overflow_cast-entry c =
-    omega (arith, node_early c.requires.type_ready)
-
-pub overflow_mul-cursor : goal.overflow_mul-cursor
-overflow_mul-cursor c =
-    omega (arith, c.requires.root_types_bound)
-
-pub overflow_add-cursor : goal.overflow_add-cursor
-overflow_add-cursor c =
-    omega (arith, c.requires.root_types_bound)
-
-pub overflow_add-after : goal.overflow_add-after
-overflow_add-after c =
-    omega (arith, c.requires.root_types_bound)
-
-pub returns-then-share : goal.returns-then-share
-returns-then-share c =
+pub returns : goal.returns
+returns c =
     root_shared c.requires.type_ready c.args.share c.find_shared.result c.find_shared.ensures c.requires.root_types_bound
-    c.in-Absent.is c.write_type-placed.ensures c.put_words.ensures c.if-share.true
+    c.in_default.is c.write_type-placed.ensures c.overwrite.ensures c.if-not-share.false
 
-pub returns-in-At : goal.returns-in-At
-returns-in-At c =
-    root_found c.requires.type_ready c.args.share c.find_shared.result c.find_shared.ensures c.in-At.is
-    c.skip_type-in-At.ensures
+pub returns-in-Some : goal.returns-in-Some
+returns-in-Some c =
+    root_found c.requires.type_ready c.args.share c.find_shared.result c.find_shared.ensures c.in-Some.is
+    c.skip_type-node-in-Some.ensures
 
-pub returns-else-share : goal.returns-else-share
-returns-else-share c =
+pub returns-then-not-share : goal.returns-then-not-share
+returns-then-not-share c =
     root_unshared c.requires.type_ready c.args.share c.find_shared.result c.find_shared.ensures c.requires.root_types_bound
-    c.in-Absent.is c.write_type-placed.ensures c.if-share.false
+    c.in_default.is c.write_type-placed.ensures c.if-not-share.true

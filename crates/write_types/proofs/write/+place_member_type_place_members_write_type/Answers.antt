@@ -4,33 +4,30 @@ use mathlib.Core.Path.{sym, ◌∙◌}
 use native.Mathlib.Omega.{arith}
 use Rattle.write_texts.specs.Scratch.{region}
 use Rattle.write_types.proofs.Ready.{node_early, name_room, entry_room}
-use Rattle.write_types.proofs.MemberType.{ready_down, member_past, member_found, member_written}
+use Rattle.write_types.proofs.MemberType.{member_past, member_found, member_written}
 use Rattle.write_types.proofs.Members.{starts, ends, turn, type_ready, goes_on}
 use Rattle.write_types.proofs.Writing.{members_ready, members_done, type_written}
 use Rattle.write_types.proofs.write.+place_member_type_place_members_write_type.Goals as goal
 
 -- `place_member_type`: past the limit it does nothing; else the type was found, or written and then pushed.
-pub place_member_type-skip_type-requires : goal.place_member_type-skip_type-requires
-place_member_type-skip_type-requires t c = omega (arith, node_early c.requires)
+pub place_member_type-skip_type-node-requires : goal.place_member_type-skip_type-node-requires
+place_member_type-skip_type-node-requires t c = omega (arith, node_early c.requires)
 
 pub place_member_type-returns-then-cursor-gt-CHUNK_LIMIT : goal.place_member_type-returns-then-cursor-gt-CHUNK_LIMIT
-place_member_type-returns-then-cursor-gt-CHUNK_LIMIT t c = member_past c.requires c.if-cursor-gt-CHUNK_LIMIT.true c.skip_type.ensures
+place_member_type-returns-then-cursor-gt-CHUNK_LIMIT t c = member_past c.requires c.if-cursor-gt-CHUNK_LIMIT.true c.skip_type-node.ensures
 
 pub place_member_type-find_shared-requires : goal.place_member_type-find_shared-requires
 place_member_type-find_shared-requires t c = (omega (arith, entry_room c.requires, c.requires.ready.long), omega (arith, node_early c.requires))
 
-pub place_member_type-skip_type-requires-in-At : goal.place_member_type-skip_type-requires-in-At
-place_member_type-skip_type-requires-in-At t c = omega (arith, node_early c.requires)
+pub place_member_type-skip_type-node-requires-in-Some : goal.place_member_type-skip_type-node-requires-in-Some
+place_member_type-skip_type-node-requires-in-Some t c = omega (arith, node_early c.requires)
 
-pub place_member_type-write_type-placed-requires : goal.place_member_type-write_type-placed-requires
-place_member_type-write_type-placed-requires t c = (omega (arith, c.decreases), ready_down c.requires)
+pub place_member_type-returns-in-Some : goal.place_member_type-returns-in-Some
+place_member_type-returns-in-Some t c = member_found c.requires c.find_shared.result c.find_shared.ensures c.in-Some.is c.skip_type-node-in-Some.ensures
 
-pub place_member_type-returns-in-At : goal.place_member_type-returns-in-At
-place_member_type-returns-in-At t c = member_found c.requires c.find_shared.result c.find_shared.ensures c.in-At.is c.skip_type-in-At.ensures
-
-pub place_member_type-returns-in-Absent : goal.place_member_type-returns-in-Absent
-place_member_type-returns-in-Absent t c =
-    member_written c.requires c.find_shared.result c.find_shared.ensures c.in-Absent.is c.write_type-placed.ensures c.put_words.ensures
+pub place_member_type-returns : goal.place_member_type-returns
+place_member_type-returns t c =
+    member_written c.requires c.find_shared.result c.find_shared.ensures c.in_default.is c.write_type-placed.ensures c.overwrite.ensures
 
 -- `place_members`: each turn of the loop places a member and pushes its record.
 pub place_members-loop-desc-init : goal.place_members-loop-desc-init
@@ -70,7 +67,7 @@ place_members-loop-desc-smaller t c =
 pub place_members-loop-desc-preserved : goal.place_members-loop-desc-preserved
 place_members-loop-desc-preserved t c =
     goes_on c.requires c.loop-desc.invariant (sym c.has_member.ensures ∙ c.loop-desc-test.true) c.type_at-desc.ensures
-    c.place_inner_name-name.ensures c.place_member_type-placed.ensures c.put_words.ensures
+    c.place_inner_name-name.ensures c.place_member_type-placed.ensures c.overwrite.ensures
 
 pub place_members-returns : goal.place_members-returns
 place_members-returns t c = ends c.requires c.loop-desc.invariant (sym c.has_member.ensures ∙ c.loop-desc-test.false)
@@ -99,8 +96,8 @@ write_type-offset_bounds-scratch-records_top t c =
     let done = members_done c.requires c.type_at-desc.ensures c.count_within.ensures c.place_type_name-name.ensures c.place_members-members.ensures in
     omega (arith, done.order, done.end)
 
-pub write_type-slice_bounds-put_type-end : goal.write_type-slice_bounds-put_type-end
-write_type-slice_bounds-put_type-end t c =
+pub write_type-slice_bounds-records-end : goal.write_type-slice_bounds-records-end
+write_type-slice_bounds-records-end t c =
     let done = members_done c.requires c.type_at-desc.ensures c.count_within.ensures c.place_type_name-name.ensures c.place_members-members.ensures in
     omega (arith, done.order, done.inside)
 

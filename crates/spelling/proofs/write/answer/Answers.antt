@@ -1,0 +1,18 @@
+-- `answer` meets its contract: the bytes that fit, or the refusal.
+use mathlib.Core.Path.{ap, ◌∙◌}
+use Prim.Native.Nat.{ℕ}
+use lib.ListN.{replicate}
+use Rattle.text_output.specs.Written.{output_of}
+use Rattle.text_output.proofs.Fitting.{refused_answers, finished_answers}
+use Rattle.spelling.proofs.write.answer.Goals as goal
+
+pub returns-in-Ok : goal.returns-in-Ok
+returns-in-Ok c outcome lent same written =
+    let p = rw c.in-Ok.is at written in
+    finished_answers p.1.0 p.1.1 (c.finish.ensures.answer, c.finish.ensures.out)
+
+pub returns-in-Err : goal.returns-in-Err
+unfolding output_of
+returns-in-Err c outcome lent same written =
+    let why = rw c.in-Err.is at written in
+    refused_answers why (c.refuse.ensures.answer, c.refuse.ensures.out ∙ ap (λ (n : ℕ). replicate n 0) same)
