@@ -14,27 +14,24 @@ fn canonical(chunk: &[u8], form: &mut [u8; CHUNK_LIMIT]) -> Result<usize, Refusa
     let mut variables = [0u32; VARIABLE_TABLE];
     let mut types = [0u32; TYPE_TABLE];
     let mut scratch = [0u32; write_spec::SCRATCH_WORDS];
-    let parsed = read::parse_rdef(
+    let def = read::parse_rdef(
         chunk,
         &mut bindings,
         &mut buffers,
         &mut variables,
         &mut types,
-    );
-    match parsed {
-        Err(refusal) => Err(refusal),
-        Ok(def) => write::write_rdef_canonical(
-            chunk,
-            &chunk[0..0],
-            def,
-            &bindings,
-            &buffers,
-            &variables,
-            &types,
-            &mut scratch,
-            form,
-        ),
-    }
+    )?;
+    write::write_rdef_canonical(
+        chunk,
+        &[],
+        def,
+        &bindings,
+        &buffers,
+        &variables,
+        &types,
+        &mut scratch,
+        form,
+    )
 }
 
 // Prints the form, or the line of the refusal.
@@ -55,7 +52,7 @@ fn print(
 fn main(rt: HostRuntime) -> Result<(), Failure> {
     let mut bytes = [0u8; CHUNK_LIMIT + 1];
     let n = input::standard_full(&rt, &mut bytes).map_err(Failure::Input)?;
-    let chunk = words::part(&bytes, 0, n);
+    let chunk = &bytes[..n];
     let mut form = [0u8; CHUNK_LIMIT];
     let written = canonical(chunk, &mut form);
     let printed = print(&rt, &form, written).map_err(Failure::Output);

@@ -29,7 +29,7 @@ fn print(rt: &HostRuntime, chunk: &[u8]) -> io::Result<Option<Refusal>> {
 fn main(rt: HostRuntime) -> Result<(), Failure> {
     let mut bytes = [0u8; CHUNK_LIMIT + 1];
     let n = input::standard_full(&rt, &mut bytes).map_err(Failure::Input)?;
-    let chunk = words::part(&bytes, 0, n);
+    let chunk = &bytes[..n];
     let refused = print(&rt, chunk).map_err(Failure::Output)?;
     stderr::refused(&rt, chunk, refused)
 }

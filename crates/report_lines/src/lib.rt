@@ -7,7 +7,6 @@ use std::io;
 use std::io::Write;
 
 mod chunk_lines;
-mod fields;
 mod lines;
 
 // Prints what the chunk reads as, or why it was refused. Answers why the chunk was refused, where it was. The tables have document 01's whole room.

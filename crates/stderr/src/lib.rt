@@ -3,16 +3,11 @@
 
 ghost use Rattle.std.specs.Prelude.{◌≡◌, OnOk};
 ghost use Rattle.std.specs.Io.KnownBytes.{Appends};
-ghost use Rattle.reflection.specs.Refusals.{refusal_number};
-ghost use Rattle.refusal_text.specs.Sentences.{sentence};
 ghost use Rattle.stderr.specs.Refused.{first_of, container, message};
 
 use reflection::Refusal;
 use std::io::{BufWriter, Write};
 use std::{fmt, io};
-
-// The bytes of a sentence; the longest has fewer.
-const SENTENCE: usize = 512;
 
 // The first four bytes of a DXBC container, as a word.
 const DXBC: u32 = 0x4342_5844;
@@ -25,7 +20,6 @@ pub enum Failure {
     Message(io::Error),
 }
 
-// By hand: a derive would print the variant's name.
 impl fmt::Debug for Failure {
     fn fmt<W: fmt::Write>(&self, f: &mut fmt::Formatter<W>) -> fmt::Result {
         match self {
@@ -43,29 +37,17 @@ pub fn keep_first(first: &mut Option<Refusal>, refusal: Refusal)
     first.get_or_insert(refusal);
 }
 
-// Adds the sentence of a refusal.
-fn put_sentence<W: Write>(to: &mut W, refusal: Refusal) -> io::Result<()>
-    ensures { OnOk result (Appends (W.contents to.old) (W.contents to.new) (sentence (refusal_number refusal))) }
-{
-    let mut sentence = [0u8; SENTENCE];
-    let written = refusal_text::refusal_text(refusal.into(), &mut sentence);
-    match written {
-        Ok(n) => stdout::put_bytes(to, words::part(&sentence, 0, n)),
-        Err(_) => Ok(()),
-    }
-}
-
 // Adds what is said of a chunk that is a DXBC container.
 fn put_container<W: Write>(to: &mut W, chunk: &[u8]) -> io::Result<()>
     ensures { OnOk result (Appends (W.contents to.old) (W.contents to.new) (container chunk.now)) }
 {
     if words::word_at(chunk, 0) == DXBC {
-        stdout::put_bytes(
+        writeln!(
             to,
-            b"the input is a DXBC container, of which an RDEF chunk is a part: take that out first\n",
+            "the input is a DXBC container, of which an RDEF chunk is a part: take that out first"
         )
     } else {
-        stdout::put_bytes(to, b"")
+        Ok(())
     }
 }
 
@@ -76,11 +58,9 @@ pub fn put_refused<W: Write>(to: &mut W, chunk: &[u8], refused: Option<Refusal>)
     let Some(refusal) = refused else {
         return Ok(());
     };
-    stdout::put_bytes(to, b"refused ")?;
-    stdout::put_decimal(to, refusal.into())?;
-    stdout::put_bytes(to, b": ")?;
-    put_sentence(to, refusal)?;
-    stdout::put_byte(to, b'\n')?;
+    let number = u32::from(refusal);
+    let sentence = refusal_text::sentence(refusal);
+    writeln!(to, "refused {number}: {sentence}")?;
     put_container(to, chunk)
 }
 

@@ -2,11 +2,10 @@
 // these are known (of standard output no contract can say them). An error of the writer is handed on at once: nothing more is written.
 #![tactic(auto)]
 
-ghost use Rattle.std.specs.Prelude.{◌≡◌, ◌<◌, [], ◌∷◌, OnOk};
+ghost use Rattle.std.specs.Prelude.{[], ◌∷◌, OnOk};
 ghost use Rattle.std.specs.Fmt.{decimal};
 ghost use Rattle.std.specs.Io.KnownBytes.{Keeps, Appends};
 ghost use Rattle.reflection.specs.Refusals.{refusal_number};
-ghost use Rattle.text_output.specs.Digits.{hex_digit};
 ghost use Rattle.stdout.specs.Output.{hex, refused_line};
 
 use reflection::Refusal;
@@ -31,15 +30,7 @@ pub fn put_bytes<W: Write>(out: &mut W, bytes: &[u8]) -> io::Result<()>
 pub fn put_decimal<W: Write>(out: &mut W, n: u32) -> io::Result<()>
     ensures { OnOk result (Appends (W.contents out.old) (W.contents out.new) (decimal n)) }
 {
-    out.write_fmt(n)
-}
-
-// A number below 16 as a lower-case digit.
-fn hex_digit(n: u8) -> u8
-    requires { n < 16 }
-    ensures { result ≡ hex_digit n }
-{
-    if n < 10 { b'0' + n } else { b'a' + (n - 10) }
+    write!(out, "{n}")
 }
 
 // Adds bytes in lower-case hex, or `-` where there are none.
@@ -50,7 +41,7 @@ pub fn put_hex<W: Write>(out: &mut W, bytes: &[u8]) -> io::Result<()>
         return put_byte(out, b'-');
     }
     for b in bytes {
-        out.write_all(&[hex_digit(b / 16), hex_digit(b % 16)])?;
+        write!(out, "{b:02x}")?;
     }
     Ok(())
 }
@@ -59,9 +50,8 @@ pub fn put_hex<W: Write>(out: &mut W, bytes: &[u8]) -> io::Result<()>
 pub fn put_refused<W: Write>(out: &mut W, refusal: Refusal) -> io::Result<()>
     ensures { OnOk result (Appends (W.contents out.old) (W.contents out.new) (refused_line (refusal_number refusal))) }
 {
-    put_bytes(out, b"refused\t")?;
-    put_decimal(out, refusal.into())?;
-    put_byte(out, b'\n')
+    let number = u32::from(refusal);
+    writeln!(out, "refused\t{number}")
 }
 
 // Writes what waits.
