@@ -16,34 +16,34 @@ mod chunk;
 
 pub use chunk::{Lines, run};
 
-// Adds the line of a refusal; `first` keeps the first one.
-pub fn put_refused<W: Write>(
-    out: &mut W,
-    first: &mut Option<Refusal>,
-    refusal: Refusal,
-) -> io::Result<()>
-    ensures line { OnOk result (Appends (W.contents out.old) (W.contents out.new) (refused_line (refusal_number refusal))) }
-    ensures first { first.new ≡ first_of first.old refusal }
-{
-    stderr::keep_first(first, refusal);
-    stdout::put_refused(out, refusal)
+// Where a program prints its lines, and the first refusal among them.
+#[derive(Drop)]
+pub struct Answers<W> {
+    pub out: W,
+    pub refused: Option<Refusal>,
 }
 
-// Adds a line, of which so many bytes were made in `line`, or that of its refusal; `first` keeps the first one.
-pub fn put_line<W: Write>(
-    out: &mut W,
-    first: &mut Option<Refusal>,
-    line: &[u8],
-    made: Result<usize, Refusal>,
-) -> io::Result<()>
-    ensures line { OnOk result (Appends (W.contents out.old) (W.contents out.new) (line_of line.now made)) }
-    ensures first { first.new ≡ first_after first.old made }
-{
-    match made {
-        Ok(length) => {
-            stdout::put_bytes(out, words::part(line, 0, length))?;
-            stdout::put_byte(out, b'\n')
+impl<W: Write> Answers<W> {
+    // Adds the line of a refusal.
+    pub fn put_refused(&mut self, refusal: Refusal) -> io::Result<()>
+        ensures line { OnOk result (Appends (W.contents self.old.out) (W.contents self.new.out) (refused_line (refusal_number refusal))) }
+        ensures first { self.new.refused ≡ first_of self.old.refused refusal }
+    {
+        stderr::keep_first(&mut self.refused, refusal);
+        stdout::put_refused(&mut self.out, refusal)
+    }
+
+    // Adds a line, of which so many bytes were made in `line`, or that of its refusal.
+    pub fn put_line(&mut self, line: &[u8], made: Result<usize, Refusal>) -> io::Result<()>
+        ensures line { OnOk result (Appends (W.contents self.old.out) (W.contents self.new.out) (line_of line.now made)) }
+        ensures first { self.new.refused ≡ first_after self.old.refused made }
+    {
+        match made {
+            Ok(length) => {
+                stdout::put_bytes(&mut self.out, words::part(line, 0, length))?;
+                stdout::put_byte(&mut self.out, b'\n')
+            }
+            Err(refusal) => self.put_refused(refusal),
         }
-        Err(refusal) => put_refused(out, first, refusal),
     }
 }

@@ -1,37 +1,19 @@
 // Reads a chunk from standard input and prints its canonical form (document 01, "Canonical form"), or the line of its refusal; standard error says why.
 #![tactic(auto)]
 
-use reflection::{BINDING_TABLE, BUFFER_TABLE, CHUNK_LIMIT, Refusal, TYPE_TABLE, VARIABLE_TABLE};
+use reflection::{CHUNK_LIMIT, Refusal, Texts};
 use std::io;
 use std::io::BufWriter;
 use stderr::Failure;
+use whole_tables::WholeTables;
 
-// Makes in `form` the canonical form of what the chunk reads as. Nothing is edited: the text of edits is empty. The tables have document 01's whole
-// room.
+// Makes in `form` the canonical form of what the chunk reads as. Nothing is edited: the text of edits is empty.
 fn canonical(chunk: &[u8], form: &mut [u8; CHUNK_LIMIT]) -> Result<usize, Refusal> {
-    let mut bindings = [0u32; BINDING_TABLE];
-    let mut buffers = [0u32; BUFFER_TABLE];
-    let mut variables = [0u32; VARIABLE_TABLE];
-    let mut types = [0u32; TYPE_TABLE];
+    let mut tables = WholeTables::new();
     let mut scratch = [0u32; write_spec::SCRATCH_WORDS];
-    let def = read::parse_rdef(
-        chunk,
-        &mut bindings,
-        &mut buffers,
-        &mut variables,
-        &mut types,
-    )?;
-    write::write_rdef_canonical(
-        chunk,
-        &[],
-        def,
-        &bindings,
-        &buffers,
-        &variables,
-        &types,
-        &mut scratch,
-        form,
-    )
+    let def = tables.read(chunk)?;
+    let texts = Texts { chunk, edits: &[] };
+    write::write_rdef_canonical(texts, tables.reflection(def), &mut scratch, form)
 }
 
 // Prints the form, or the line of the refusal.

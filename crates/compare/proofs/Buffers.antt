@@ -4,7 +4,6 @@ use mathlib.Core.Bool.{Bool, true, false, ◌&&◌}
 use mathlib.Core.List.{List, [], ◌∷◌, map}
 use Prim.Native.Nat.{ℕ, zero, suc, ◌+◌, ◌≤◌, ◌<◌}
 use native.Mathlib.Omega.{arith}
-use Rattle.std.proofs.Common.{Fits, w64}
 use Rattle.text.specs.Same.{same_bytes}
 use Rattle.reflection.specs.declared.Text.{Text}
 use Rattle.reflection.specs.declared.ResourceDef.{ResourceDef as Header}
@@ -67,9 +66,6 @@ module _ (buffers : List ℕ) (end i first n : ℕ) {x : BufferRecord} (is_x : x
   module _ (h : i < end) where
     pub first_within : first_variable buffers end ≤ variable_room → first + n ≤ variable_room
     first_within few = omega (arith, few, first_after, first_below buffers (i + 1) end (omega (arith, h)))
-
-    pub first_fits : first_variable buffers end ≤ variable_room → Fits w64 (first + n)
-    first_fits few = omega (arith, first_within few)
 
     pub nodes_within : (types : List ℕ) → root_at types (first_variable buffers end) ≤ type_room → root_at types (first + n) ≤ type_room
     nodes_within types few =

@@ -10,7 +10,7 @@ use Rattle.text.proofs.SameBytes.{other_byte}
 use Rattle.reflection.specs.declared.ResourceDef.{ResourceDef as Header}
 use Rattle.reflection.specs.Reflection.{major_of, is_sm5}
 use Rattle.reflection.specs.Rd11.{rd11_from_header}
-use Rattle.reflection.proofs.Rd11Words.{rd11_if, sm5_is, rd11_by_sm5}
+use Rattle.reflection.proofs.Rd11BySm5.{rd11_if, sm5_is, rd11_by_sm5}
 use Rattle.write_spec.specs.Same.{rd11_numbers}
 use Rattle.compare.specs.Fields.{header_numbers}
 

@@ -1,27 +1,23 @@
 // Whether two records are equal.
-ghost use Rattle.std.specs.Prelude.{◌≡◌, ◌≤◌};
+ghost use Rattle.std.specs.Prelude.{◌≡◌};
 ghost use Rattle.text.specs.Same.{same_bytes};
 ghost use Rattle.tables.specs.Nodes.{type_levels};
 ghost use Rattle.tables.specs.Decode.{binding_from_table, variable_from_table};
 ghost use Rattle.write_spec.specs.Same.{same_binding, same_variable};
 ghost use Rattle.compare_types.specs.Same.{same_name};
-ghost use Rattle.tables.specs.Trees.{farthest_node, type_tree};
+ghost use Rattle.tables.specs.Trees.{type_tree};
 ghost use Rattle.compare.specs.Fields.{same_fields, header_numbers};
 
-use reflection::{CBufferDef, CBufferVariable, ResourceBinding, ResourceDef, TYPE_LEVELS};
+use compare_types::TypeNode;
+use reflection::{CBufferDef, CBufferVariable, ResourceBinding, ResourceDef, TYPE_LEVELS, Texts};
 
 // Whether two bindings are equal. No derive says it: names are equal by their bytes, wherever they lie.
 #[tactic(auto, unfolding(write_spec::specs::Same::same_binding, tables::specs::Decode::binding_from_table, text::specs::Same::same_bytes))]
-pub fn same_binding<'a>(
-    chunk: &'a [u8],
-    edits: &'a [u8],
-    x: ResourceBinding,
-    y: ResourceBinding,
-) -> bool
-    ensures { result ≡ same_binding (same_name chunk.now edits.now) (same_name chunk.now edits.now)
+pub fn same_binding(texts: Texts<'_>, x: ResourceBinding, y: ResourceBinding) -> bool
+    ensures { result ≡ same_binding (same_name texts.entry.chunk.now texts.entry.edits.now) (same_name texts.entry.chunk.now texts.entry.edits.now)
         (binding_from_table x) (binding_from_table y) }
 {
-    compare_types::same_name(chunk, edits, x.name, y.name)
+    compare_types::same_name(texts, x.name, y.name)
         && x.input_type == y.input_type
         && x.return_type == y.return_type
         && x.dimension == y.dimension
@@ -33,23 +29,20 @@ pub fn same_binding<'a>(
         && x.id == y.id
 }
 
-// Whether two variables are equal, whose types are at node i of one table and at node j of the other. No derive says it, as above.
+// Whether two variables are equal, whose types begin at these nodes. No derive says it, as above.
 #[tactic(auto, unfolding(write_spec::specs::Same::same_variable, tables::specs::Decode::variable_from_table, text::specs::Same::same_bytes))]
-pub fn same_variable<'a>(
-    chunk: &'a [u8],
-    edits: &'a [u8],
+pub fn same_variable(
+    texts: Texts<'_>,
     x: CBufferVariable,
-    types: &[u32],
-    i: usize,
+    x_type: TypeNode<'_>,
     y: CBufferVariable,
-    others: &[u32],
-    j: usize,
+    y_type: TypeNode<'_>,
 ) -> bool
-    requires { (i ≤ farthest_node) × (j ≤ farthest_node) }
-    ensures { result ≡ same_variable (same_name chunk.now edits.now) (same_name chunk.now edits.now)
-        (variable_from_table x (type_tree types.now type_levels i)) (variable_from_table y (type_tree others.now type_levels j)) }
+    ensures { result ≡ same_variable (same_name texts.entry.chunk.now texts.entry.edits.now) (same_name texts.entry.chunk.now texts.entry.edits.now)
+        (variable_from_table x (type_tree x_type.entry.types.now type_levels x_type.entry.node))
+        (variable_from_table y (type_tree y_type.entry.types.now type_levels y_type.entry.node)) }
 {
-    compare_types::same_name(chunk, edits, x.name, y.name)
+    compare_types::same_name(texts, x.name, y.name)
         && x.offset == y.offset
         && x.size == y.size
         && x.flags.0 == y.flags.0
@@ -57,16 +50,16 @@ pub fn same_variable<'a>(
         && x.texture_size == y.texture_size
         && x.sampler_start == y.sampler_start
         && x.sampler_size == y.sampler_size
-        && compare_types::same_name(chunk, edits, x.default_value, y.default_value)
-        && compare_types::same_type_between(chunk, edits, types, i, others, j, TYPE_LEVELS)
+        && compare_types::same_name(texts, x.default_value, y.default_value)
+        && compare_types::same_type_between(texts, x_type, y_type, TYPE_LEVELS)
 }
 
 // Whether two buffers are equal but for their variables. No derive says it, as above.
 #[tactic(auto, unfolding(crate::specs::Fields::same_fields, text::specs::Same::same_bytes))]
-pub fn same_fields<'a>(chunk: &'a [u8], edits: &'a [u8], x: CBufferDef, y: CBufferDef) -> bool
-    ensures { result ≡ same_fields (same_name chunk.now edits.now) x y }
+pub fn same_fields(texts: Texts<'_>, x: CBufferDef, y: CBufferDef) -> bool
+    ensures { result ≡ same_fields (same_name texts.entry.chunk.now texts.entry.edits.now) x y }
 {
-    compare_types::same_name(chunk, edits, x.name, y.name)
+    compare_types::same_name(texts, x.name, y.name)
         && x.size == y.size
         && x.flags == y.flags
         && x.cb_type == y.cb_type

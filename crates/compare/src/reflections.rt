@@ -9,156 +9,116 @@ ghost use Rattle.compare.specs.Fields.{binding_in_table};
 ghost use Rattle.compare.specs.Compared.{VariablesCompared};
 
 use crate::records::{same_binding, same_fields, same_numbers, same_variable};
-use reflection::{ResourceDef, TYPE_LEVELS};
+use compare_types::TypeNode;
+use reflection::{TYPE_LEVELS, Texts};
+use tables::Reflection;
 
 // Whether the first bindings of two tables are equal.
-fn same_bindings<'a>(
-    chunk: &'a [u8],
-    edits: &'a [u8],
-    bindings: &[u32],
-    others: &[u32],
-    count: usize,
-) -> bool
-    ensures { result ≡ same_list (same_binding (same_name chunk.now edits.now) (same_name chunk.now edits.now))
+fn same_bindings(texts: Texts<'_>, bindings: &[u32], others: &[u32], count: usize) -> bool
+    ensures { result ≡ same_list (same_binding (same_name texts.entry.chunk.now texts.entry.edits.now) (same_name texts.entry.chunk.now texts.entry.edits.now))
         (records_from (binding_in_table bindings.now) 0 count) (records_from (binding_in_table others.now) 0 count) }
 {
     (0..count).all(|i| {
         let x = tables::binding_at(bindings, i);
         let y = tables::binding_at(others, i);
-        same_binding(chunk, edits, x, y)
+        same_binding(texts, x, y)
     })
 }
 
-// The nodes after the types of `count` variables from `first` on, of two tables, where the variables are equal. Their types begin at the nodes `root` and
-// `other_root`.
-#[tactic(auto, using(crate::proofs::Buffers::variable_walk))]
-fn same_variables<'a>(
-    chunk: &'a [u8],
-    edits: &'a [u8],
-    variables: &[u32],
-    types: &[u32],
-    other_variables: &[u32],
-    other_types: &[u32],
-    first: usize,
-    count: usize,
-    root: usize,
-    other_root: usize,
-) -> Option<(usize, usize)>
-    requires root_value { (root ≡ root_at types.now first) × (other_root ≡ root_at other_types.now first) }
-    requires count_bound { (first + count ≤ variable_room)
-        × ((root_at types.now (first + count) ≤ type_room) × (root_at other_types.now (first + count) ≤ type_room)) }
-    ensures { VariablesCompared (same_name chunk.now edits.now) variables.now types.now
-        other_variables.now other_types.now first count result }
-{
-    let mut k = root;
-    let mut l = other_root;
-    for i in first..first + count {
-        let x = tables::variable_at(variables, i);
-        let y = tables::variable_at(other_variables, i);
-        if !same_variable(chunk, edits, x, types, k, y, other_types, l) {
-            return None;
-        }
-        k = compare_types::skip_type(types, k, TYPE_LEVELS);
-        l = compare_types::skip_type(other_types, l, TYPE_LEVELS);
-    }
-    Some((k, l))
+// A variable of two reflections, and the nodes at which its type begins in the one and in the other.
+#[derive(Clone, Copy)]
+struct Place {
+    pub variable: usize,
+    pub root: usize,
+    pub other_root: usize,
 }
 
-// Whether the first buffers of two tables are equal, with their variables.
-#[tactic(auto, using(crate::proofs::Buffers::buffer_walk))]
-fn same_buffers<'a>(
-    chunk: &'a [u8],
-    edits: &'a [u8],
-    buffers: &[u32],
-    variables: &[u32],
-    types: &[u32],
-    other_buffers: &[u32],
-    other_variables: &[u32],
-    other_types: &[u32],
+// The place after `count` variables, where these are equal.
+#[tactic(auto, using(crate::proofs::Buffers::variable_walk))]
+fn same_variables(
+    texts: Texts<'_>,
+    x: Reflection<'_>,
+    y: Reflection<'_>,
+    from: Place,
     count: usize,
-) -> bool
-    requires count_bound { (first_variable buffers.now count ≤ variable_room) × (first_variable other_buffers.now count ≤ variable_room) }
-    requires count_bound_2 { (root_at types.now (first_variable buffers.now count) ≤ type_room)
-        × (root_at other_types.now (first_variable other_buffers.now count) ≤ type_room) }
-    ensures { result ≡ same_list (same_buffer (same_name chunk.now edits.now) (same_name chunk.now edits.now))
-        (records_from (buffer_in_table buffers.now variables.now types.now) 0 count)
-        (records_from (buffer_in_table other_buffers.now other_variables.now other_types.now) 0 count) }
+) -> Option<Place>
+    requires root_value { (from.root ≡ root_at x.types.now from.variable) × (from.other_root ≡ root_at y.types.now from.variable) }
+    requires count_bound { (from.variable + count ≤ variable_room)
+        × ((root_at x.types.now (from.variable + count) ≤ type_room) × (root_at y.types.now (from.variable + count) ≤ type_room)) }
+    ensures { VariablesCompared (same_name texts.entry.chunk.now texts.entry.edits.now) x.entry.variables.now x.entry.types.now
+        y.entry.variables.now y.entry.types.now from.variable count result }
 {
-    let mut first = 0;
-    let mut root = 0;
-    let mut other_root = 0;
+    let mut k = from.root;
+    let mut l = from.other_root;
+    let end = from.variable + count;
+    for i in from.variable..end {
+        let x_type = TypeNode {
+            types: x.types,
+            node: k,
+        };
+        let y_type = TypeNode {
+            types: y.types,
+            node: l,
+        };
+        let variable = tables::variable_at(x.variables, i);
+        let other = tables::variable_at(y.variables, i);
+        if !same_variable(texts, variable, x_type, other, y_type) {
+            return None;
+        }
+        k = compare_types::skip_type(x_type, TYPE_LEVELS);
+        l = compare_types::skip_type(y_type, TYPE_LEVELS);
+    }
+    Some(Place {
+        variable: end,
+        root: k,
+        other_root: l,
+    })
+}
+
+// Whether the first buffers of two reflections are equal, with their variables.
+#[tactic(auto, using(crate::proofs::Buffers::buffer_walk))]
+fn same_buffers(texts: Texts<'_>, x: Reflection<'_>, y: Reflection<'_>, count: usize) -> bool
+    requires count_bound { (first_variable x.buffers.now count ≤ variable_room) × (first_variable y.buffers.now count ≤ variable_room) }
+    requires count_bound_2 { (root_at x.types.now (first_variable x.buffers.now count) ≤ type_room)
+        × (root_at y.types.now (first_variable y.buffers.now count) ≤ type_room) }
+    ensures { result ≡ same_list (same_buffer (same_name texts.entry.chunk.now texts.entry.edits.now) (same_name texts.entry.chunk.now texts.entry.edits.now))
+        (records_from (buffer_in_table x.entry.buffers.now x.entry.variables.now x.entry.types.now) 0 count)
+        (records_from (buffer_in_table y.entry.buffers.now y.entry.variables.now y.entry.types.now) 0 count) }
+{
+    let mut next = Place {
+        variable: 0,
+        root: 0,
+        other_root: 0,
+    };
     for i in 0..count {
-        let x = tables::buffer_at(buffers, i);
-        let y = tables::buffer_at(other_buffers, i);
-        if !same_fields(chunk, edits, x, y) || x.variable_count != y.variable_count {
+        let buffer = tables::buffer_at(x.buffers, i);
+        let other = tables::buffer_at(y.buffers, i);
+        if !same_fields(texts, buffer, other) || buffer.variable_count != other.variable_count {
             return false;
         }
-        let own = x.variable_count as usize;
-        let Some((after, other_after)) = same_variables(
-            chunk,
-            edits,
-            variables,
-            types,
-            other_variables,
-            other_types,
-            first,
-            own,
-            root,
-            other_root,
-        ) else {
+        let own = buffer.variable_count as usize;
+        let Some(after) = same_variables(texts, x, y, next, own) else {
             return false;
         };
-        first += own;
-        root = after;
-        other_root = other_after;
+        next = after;
     }
     true
 }
 
-// Whether two reflections are equal, each in a header and its four tables: numbers, and names and defaults by their bytes in the chunk or the text of edits.
+// Whether two reflections are equal: numbers, and names and defaults by their bytes in the chunk or the text of edits.
 // No derive says it: a reflection is a header and four lent tables.
 #[tactic(auto, using(crate::proofs::Buffers::reflection_tests))]
-pub fn same_reflection<'a>(
-    chunk: &'a [u8],
-    edits: &'a [u8],
-    def: ResourceDef,
-    bindings: &[u32],
-    buffers: &[u32],
-    variables: &[u32],
-    types: &[u32],
-    other: ResourceDef,
-    other_bindings: &[u32],
-    other_buffers: &[u32],
-    other_variables: &[u32],
-    other_types: &[u32],
-) -> bool
-    requires sized { Sized def buffers.now types.now }
-    requires sized_2 { Sized other other_buffers.now other_types.now }
-    ensures { result ≡ same_def (same_name chunk.now edits.now) (same_name chunk.now edits.now)
-        (reflection_in_tables def bindings.now buffers.now variables.now types.now)
-        (reflection_in_tables other other_bindings.now other_buffers.now other_variables.now
-        other_types.now) }
+pub fn same_reflection(texts: Texts<'_>, x: Reflection<'_>, y: Reflection<'_>) -> bool
+    requires sized { Sized x.def x.buffers.now x.types.now }
+    requires sized_2 { Sized y.def y.buffers.now y.types.now }
+    ensures { result ≡ same_def (same_name texts.entry.chunk.now texts.entry.edits.now) (same_name texts.entry.chunk.now texts.entry.edits.now)
+        (reflection_in_tables x.entry.def x.entry.bindings.now x.entry.buffers.now x.entry.variables.now x.entry.types.now)
+        (reflection_in_tables y.entry.def y.entry.bindings.now y.entry.buffers.now y.entry.variables.now y.entry.types.now) }
 {
-    same_numbers(def, other)
-        && compare_types::same_name(chunk, edits, def.creator, other.creator)
-        && def.binding_count == other.binding_count
-        && same_bindings(
-            chunk,
-            edits,
-            bindings,
-            other_bindings,
-            def.binding_count as usize,
-        )
-        && def.buffer_count == other.buffer_count
-        && same_buffers(
-            chunk,
-            edits,
-            buffers,
-            variables,
-            types,
-            other_buffers,
-            other_variables,
-            other_types,
-            def.buffer_count as usize,
-        )
+    same_numbers(x.def, y.def)
+        && compare_types::same_name(texts, x.def.creator, y.def.creator)
+        && x.def.binding_count == y.def.binding_count
+        && same_bindings(texts, x.bindings, y.bindings, x.def.binding_count as usize)
+        && x.def.buffer_count == y.def.buffer_count
+        && same_buffers(texts, x, y, x.def.buffer_count as usize)
 }

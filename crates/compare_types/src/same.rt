@@ -1,31 +1,32 @@
 // Whether two types, of one table or of two, are equal: their numbers, names and members (document 01, "Canonical form").
-ghost use Rattle.std.specs.Prelude.{◌≡◌, true, false, ◌≤◌};
+ghost use Rattle.std.specs.Prelude.{◌≡◌, true, false, ◌+◌};
 ghost use Rattle.text.specs.Same.{same_bytes};
 ghost use Rattle.tables.specs.Decode.{node_from_table};
 ghost use Rattle.write_spec.specs.Same.{numbers_of, same_type, same_members};
-ghost use Rattle.tables.specs.Trees.{farthest_node, node_at, tree_at, members_at, type_tree};
-ghost use Rattle.compare_types.specs.Same.{same_name};
+ghost use Rattle.tables.specs.Trees.{node_at, tree_at, members_at};
+ghost use Rattle.compare_types.specs.Same.{same_in, tree_of};
 
+use crate::TypeNode;
 use crate::skip::{has_member, skip_type};
-use reflection::{TYPE_WORDS, Text, TypeDesc};
+use reflection::{TYPE_WORDS, Text, Texts, TypeDesc};
 
-// Whether one of the first five numbers of node a of one table is another than that of node b of another. A quick test: the words are read where they lie, the
-// number of columns, in which most types differ, first. Where it says no, the numbers may differ all the same.
+// Whether one of the first five numbers of one node is another than that of the other. A quick test: the words are read where they lie, the number of
+// columns, in which most types differ, first. Where it says no, the numbers may differ all the same.
 #[tactic(auto, using(crate::proofs::Numbers::other_words))]
-fn other_numbers(types: &[u32], a: usize, others: &[u32], b: usize) -> bool
-    ensures { result ≡ true → same_bytes (numbers_of (node_at types.now a).numbers) (numbers_of (node_at others.now b).numbers)
-        ≡ false }
+fn other_numbers(x: TypeNode<'_>, y: TypeNode<'_>) -> bool
+    ensures { result ≡ true → same_bytes (numbers_of (node_at x.entry.types.now x.entry.node).numbers)
+        (numbers_of (node_at y.entry.types.now y.entry.node).numbers) ≡ false }
 {
-    if a >= types.len() / TYPE_WORDS || b >= others.len() / TYPE_WORDS {
+    if x.node >= x.types.len() / TYPE_WORDS || y.node >= y.types.len() / TYPE_WORDS {
         return false;
     }
-    let i = a * TYPE_WORDS;
-    let j = b * TYPE_WORDS;
-    types[i + 3] != others[j + 3]
-        || types[i + 2] != others[j + 2]
-        || types[i + 1] != others[j + 1]
-        || types[i + 4] != others[j + 4]
-        || types[i] != others[j]
+    let i = x.node * TYPE_WORDS;
+    let j = y.node * TYPE_WORDS;
+    x.types[i + 3] != y.types[j + 3]
+        || x.types[i + 2] != y.types[j + 2]
+        || x.types[i + 1] != y.types[j + 1]
+        || x.types[i + 4] != y.types[j + 4]
+        || x.types[i] != y.types[j]
 }
 
 // Whether two nodes have the same numbers. No derive says it: the names and the member count are left out.
@@ -46,109 +47,83 @@ fn same_numbers(x: TypeDesc, y: TypeDesc) -> bool
 
 // Whether two names have the same bytes. Names in one place, as of types that were read from one descriptor, need no look at the bytes.
 #[tactic(auto, using(crate::proofs::Names::in_one_place), unfolding(crate::specs::Same::same_name))]
-pub fn same_name<'a>(chunk: &'a [u8], edits: &'a [u8], x: Text, y: Text) -> bool
-    ensures { result ≡ same_name chunk.now edits.now x y }
+pub fn same_name(texts: Texts<'_>, x: Text, y: Text) -> bool
+    ensures { result ≡ same_in texts.entry x y }
 {
-    if x.source == y.source && x.place == y.place && x.length == y.length {
+    if x == y {
         return true;
     }
-    let a = reflection::name_part(chunk, edits, x);
-    let b = reflection::name_part(chunk, edits, y);
+    let a = texts.name_part(x);
+    let b = texts.name_part(y);
     text::same_text(a, b)
 }
 
-// Whether the type at node a of the table and the type at node b of it are equal, each with at most so many levels of members.
+// Whether the types at two nodes are equal, each with at most so many levels of members. The quick test first.
 #[tactic(auto, using(crate::proofs::Equal::other_nodes))]
-pub fn same_type<'a>(
-    chunk: &'a [u8],
-    edits: &'a [u8],
-    types: &[u32],
-    a: usize,
-    b: usize,
-    levels: usize,
-) -> bool
-    requires { (a ≤ farthest_node) × (b ≤ farthest_node) }
-    ensures { result ≡ same_type (same_name chunk.now edits.now) (type_tree types.now levels a)
-        (type_tree types.now levels b) }
+pub fn same_type(texts: Texts<'_>, x: TypeNode<'_>, y: TypeNode<'_>, levels: usize) -> bool
+    ensures { result ≡ same_type (same_in texts.entry) (tree_of levels x.entry) (tree_of levels y.entry) }
 {
-    !other_numbers(types, a, types, b)
-        && same_type_between(chunk, edits, types, a, types, b, levels)
+    !other_numbers(x, y) && same_type_between(texts, x, y, levels)
 }
 
-// Whether the type at node a of one table and the type at node b of another are equal, each with at most so many levels of members.
+// Whether the types at two nodes are equal, each with at most so many levels of members.
 // No derive says it: the types are nodes of lent tables, and names are equal by their bytes.
 #[cycle(same_members_same_type_between)]
 #[tactic(auto, using(crate::proofs::Equal::type_tests))]
-pub fn same_type_between<'a>(
-    chunk: &'a [u8],
-    edits: &'a [u8],
-    types: &[u32],
-    a: usize,
-    others: &[u32],
-    b: usize,
-    levels: usize,
-) -> bool
-    requires { (a ≤ farthest_node) × (b ≤ farthest_node) }
-    ensures { result ≡ same_type (same_name chunk.now edits.now) (type_tree types.now levels a)
-        (type_tree others.now levels b) }
+pub fn same_type_between(texts: Texts<'_>, x: TypeNode<'_>, y: TypeNode<'_>, levels: usize) -> bool
+    ensures { result ≡ same_type (same_in texts.entry) (tree_of levels x.entry) (tree_of levels y.entry) }
 {
-    let x = tables::type_at(types, a);
-    let y = tables::type_at(others, b);
-    same_numbers(x, y)
-        && same_name(chunk, edits, x.name, y.name)
-        && (levels == 0
-            || same_members(
-                chunk,
-                edits,
-                types,
-                x.member_count,
-                a + 1,
-                others,
-                y.member_count,
-                b + 1,
-                levels - 1,
-            ))
+    let a = tables::type_at(x.types, x.node);
+    let b = tables::type_at(y.types, y.node);
+    same_numbers(a, b)
+        && same_name(texts, a.name, b.name)
+        && (levels == 0 || same_members(texts, x, a.member_count, y, b.member_count, levels - 1))
 }
 
-// Whether m members from node a on and n members from node b of the other table on are equal. A loop, so that the stack holds at most two frames for each
+// Whether the first m members of the type at node x and the first n of that at node y are equal. A loop, so that the stack holds at most two frames for each
 // level.
 #[cycle(same_members_same_type_between)]
 #[tactic(auto, using(crate::proofs::Equal::member_tests))]
-fn same_members<'a>(
-    chunk: &'a [u8],
-    edits: &'a [u8],
-    types: &[u32],
+fn same_members(
+    texts: Texts<'_>,
+    x: TypeNode<'_>,
     m: u32,
-    a: usize,
-    others: &[u32],
+    y: TypeNode<'_>,
     n: u32,
-    b: usize,
     levels: usize,
 ) -> bool
-    ensures { result ≡ same_members (same_name chunk.now edits.now)
-        (members_at (tree_at types.now levels) types.now m a).it
-        (members_at (tree_at others.now levels) others.now n b).it }
+    ensures { result ≡ same_members (same_in texts.entry)
+        (members_at (tree_at x.entry.types.now levels) x.entry.types.now m (x.entry.node + 1)).it
+        (members_at (tree_at y.entry.types.now levels) y.entry.types.now n (y.entry.node + 1)).it }
 {
     let mut left = m;
     let mut other_left = n;
-    let mut i = a;
-    let mut j = b;
-    while has_member(types, left, i) {
-        if !has_member(others, other_left, j) {
+    let mut i = x.node + 1;
+    let mut j = y.node + 1;
+    while has_member(x.types, left, i) {
+        if !has_member(y.types, other_left, j) {
             return false;
         }
-        let x = tables::type_at(types, i);
-        let y = tables::type_at(others, j);
-        if x.member_offset != y.member_offset
-            || !same_name(chunk, edits, x.member_name, y.member_name)
-            || !same_type_between(chunk, edits, types, i, others, j, levels)
+        let a = tables::type_at(x.types, i);
+        let b = tables::type_at(y.types, j);
+        let member = TypeNode {
+            types: x.types,
+            node: i,
+        };
+        let other = TypeNode {
+            types: y.types,
+            node: j,
+        };
+        if a.member_offset != b.member_offset
+            || !same_name(texts, a.member_name, b.member_name)
+            || !same_type_between(texts, member, other, levels)
         {
             return false;
         }
-        i = skip_type(types, i, levels);
-        j = skip_type(others, j, levels);
+        i = skip_type(member, levels);
+        j = skip_type(other, levels);
         left -= 1;
         other_left -= 1;
     }
-    !has_member(others, other_left, j)
+    !has_member(y.types, other_left, j)
 }

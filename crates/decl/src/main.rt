@@ -1,12 +1,13 @@
 // Reads a chunk from standard input and prints the declaration of each variable, a line each, in walk order (document 01, "Spelling and listing").
 #![tactic(auto)]
 
-use answer_lines::Lines;
-use reflection::{CHUNK_LIMIT, Refusal, ResourceDef};
+use answer_lines::{Answers, Lines};
+use reflection::{CHUNK_LIMIT, Texts};
 use std::io;
 use std::io::Write;
 use std::ops::Range;
 use stderr::Failure;
+use tables::Reflection;
 
 // Passes the nodes of one type: after each, its members and the nodes that were still to come behind it.
 fn pass_type(types: &[u32], nodes: &mut Range<usize>) {
@@ -26,22 +27,18 @@ struct Declarations;
 impl Lines for Declarations {
     // The nodes of a variable's type follow those of the variables before it.
     fn put<W: Write>(
-        out: &mut W,
-        refused: &mut Option<Refusal>,
-        chunk: &[u8],
-        def: ResourceDef,
-        _bindings: &[u32],
-        variables: &[u32],
-        types: &[u32],
+        answers: &mut Answers<W>,
+        texts: Texts<'_>,
+        r: Reflection<'_>,
     ) -> io::Result<()> {
         let mut line = [0u8; CHUNK_LIMIT];
-        let mut nodes = 0..def.type_count as usize;
-        for i in 0..def.variable_count as usize {
-            let name = tables::variable_at(variables, i).name;
-            let t = tables::type_at(types, nodes.start);
-            let made = spelling::declaration(chunk, chunk, t, name, &mut line);
-            answer_lines::put_line(out, refused, &line, made)?;
-            pass_type(types, &mut nodes);
+        let mut nodes = 0..r.def.type_count as usize;
+        for i in 0..r.def.variable_count as usize {
+            let name = tables::variable_at(r.variables, i).name;
+            let t = tables::type_at(r.types, nodes.start);
+            let made = spelling::declaration(texts, t, name, &mut line);
+            answers.put_line(&line, made)?;
+            pass_type(r.types, &mut nodes);
         }
         Ok(())
     }

@@ -1,18 +1,21 @@
 -- The names of flags, joined from the left as the code writes them and from the right as the definition has them: joining is associative.
 use mathlib.Core.Path.{◌≡◌, refl, ap, sym, ◌∙◌}
-use mathlib.Core.Bool.{Bool, cond}
+use mathlib.Core.Bool.{Bool, false, cond}
 use mathlib.Core.List.{List, [], ◌∷◌, ◌++◌, append_assoc}
-use Prim.Native.Nat.{ℕ, ◌<◌}
+use Prim.Native.Nat.{ℕ, suc, ◌+◌, ◌<◌}
 use native.Mathlib.Omega.{arith}
 use borrow.Author.Tests.{eq-eqb, ne_eqb}
-use lib.ListN.{length}
-use Rattle.words.specs.Splice.{Put}
-use Rattle.words.proofs.Splice.{put_then}
+use lib.ListN.{length, drop, get_or}
+use lib.Seq.{drop-cons}
+use Rattle.std.proofs.Common.{Bor}
 use Rattle.codes.specs.Microsoft.{D3D_SIF_USERPACKED, D3D_SIF_COMPARISON_SAMPLER, D3D_SIF_TEXTURE_COMPONENT_0, D3D_SIF_TEXTURE_COMPONENT_1}
 use Rattle.codes.specs.Microsoft.{D3D_SIF_UNUSED}
 use Rattle.flags.specs.Flags.{flag}
 use Rattle.text_output.specs.Digits.{hex}
 use Rattle.text_output.specs.Ascii.{ascii}
+use Rattle.text_output.specs.declared.output.Output.{Output}
+use Rattle.text_output.specs.Output.{Appended}
+use Rattle.text_output.proofs.Appended.{appended_then}
 use Rattle.listing.specs.Names.{flag_names}
 use Rattle.listing.specs.Listing.{joined_by, set_names, or_hex, flags_part}
 
@@ -27,19 +30,19 @@ joined_assoc c (x ∷ xs) (y ∷ ys) [] = refl
 joined_assoc c (x ∷ xs) (y ∷ ys) (z ∷ zs) = append_assoc (x ∷ xs) (c ∷ y ∷ ys) (c ∷ z ∷ zs)
 
 -- one name more: the first stands alone, another after a `;`
-pub put_first : {lent out out' : List ℕ} {start at r : ℕ} (before name : List ℕ) → Put lent start before out at → at ≡ start → Put out at name out' r
-    → Put lent start (joined_by 59 before name) out' r
-put_first [] name p e q = put_then p q
-put_first (x ∷ xs) name p e q = let none : ⊥ = omega (arith, p.next) in absurd none
+pub put_first : {lent out out' : Output} (before name : List ℕ) → Appended lent out before → out.at ≡ lent.at → Appended out out' name
+    → Appended lent out' (joined_by 59 before name)
+put_first [] name p e q = appended_then p q
+put_first (x ∷ xs) name p e q = let none : ⊥ = omega (arith, p.text.next) in absurd none
 
-pub put_next : {lent out out' : List ℕ} {start at r : ℕ} (before name : List ℕ) → Put lent start before out at → (at ≡ start → ⊥) → 0 < length name
-    → Put out at (59 ∷ name) out' r → Put lent start (joined_by 59 before name) out' r
-put_next [] name p other some q = let none : ⊥ = omega (arith, p.next) in absurd none
+pub put_next : {lent out out' : Output} (before name : List ℕ) → Appended lent out before → (out.at ≡ lent.at → ⊥) → 0 < length name
+    → Appended out out' (59 ∷ name) → Appended lent out' (joined_by 59 before name)
+put_next [] name p other some q = let none : ⊥ = omega (arith, p.text.next) in absurd none
 put_next (x ∷ xs) [] p other some q = let none : ⊥ = omega arith in absurd none
-put_next (x ∷ xs) (y ∷ ys) p other some q = put_then p q
+put_next (x ∷ xs) (y ∷ ys) p other some q = appended_then p q
 
 -- a name joined to those before it where its flag is set; and so for each row of a table of flags
-abbrev joined_where : List ℕ → Bool → List ℕ → List ℕ
+abbrev pub joined_where : List ℕ → Bool → List ℕ → List ℕ
 joined_where before set name = joined_by 59 before (cond set name [])
 
 abbrev from_left : List ℕ → List (ℕ × List ℕ) → ℕ → List ℕ
@@ -58,6 +61,25 @@ pub five_joined : (w : ℕ) {a b c d e : Bool} → a ≡ flag D3D_SIF_USERPACKED
     d (ascii "texComp1")) e (ascii "unused")
     ≡ set_names flag_names w
 five_joined w pa pb pc pd pe = rw (pa, pb, pc, pd, pe) (from_left_lem [] flag_names w)
+
+-- pairs of whether a flag is set and its name: the names that are set, joined to those before them, the room that they take, and that none is empty
+abbrev Pairs : Type 0
+Pairs = List (Bool × Bor (List ℕ))
+
+abbrev pub left_joined : List ℕ → Pairs → List ℕ
+left_joined before [] = before
+left_joined before (x ∷ xs) = left_joined (joined_where before x.0 x.1.now) xs
+
+abbrev pub room_of : Pairs → ℕ
+room_of [] = 0
+room_of (x ∷ xs) = (1 + length x.1.now) + room_of xs
+
+abbrev pub AllNamed : Pairs → Type 0
+AllNamed [] = Unit
+AllNamed (x ∷ xs) = (0 < length x.1.now) × AllNamed xs
+
+pub pair_first : (xs : Pairs) (i : ℕ) → i < length xs → drop i xs ≡ get_or xs i (false, record { ref_ptr = (0, 0); now = [] }) ∷ drop (i + 1) xs
+pair_first xs i some = let e : suc i ≡ i + 1 = omega arith in rw (← e) (drop-cons xs i _ some)
 
 -- the flags by whether any name was written
 or_hex_some : (w : ℕ) (names : List ℕ) → 0 < length names → or_hex w names ≡ names

@@ -1,14 +1,15 @@
 // The columns for the input type and the dimension: the names of their codes.
 ghost use Rattle.std.specs.Prelude.{◌≡◌, ◌∷◌, ◌+◌, ◌≤◌, length};
-ghost use Rattle.words.specs.Splice.{Put};
 ghost use Rattle.codes.specs.InputType.{input_type_row};
 ghost use Rattle.codes.specs.Dimension.{dimension_row};
 ghost use Rattle.text_output.specs.Cursor.{farthest};
+ghost use Rattle.text_output.specs.Output.{Appended};
 ghost use Rattle.listing.specs.Names.{input_type_name, listed_input_type, dimension_name, listed_dimension};
 ghost use Rattle.listing.specs.Listing.{pad_to};
 
 use crate::column::put_text;
 use codes::{ResourceDimension, ResourceInputType};
+use text_output::Output;
 
 // The name of an input type.
 fn input_type_name(of: ResourceInputType) -> &'static [u8]
@@ -45,12 +46,12 @@ fn listed_input_type(n: u32) -> &'static [u8]
 }
 
 // Writes a space and the name of an input type by its number.
-pub(crate) fn put_input_type(out: &mut [u8], at: usize, n: u32) -> usize
-    requires { at + 64 ≤ farthest }
-    ensures text { Put out.old at (32 ∷ pad_to 12 (listed_input_type n)) out.new result }
-    ensures near { result ≤ at + 42 }
+pub(crate) fn put_input_type(out: &mut Output<'_>, n: u32)
+    requires { out.old.at + 64 ≤ farthest }
+    ensures text { Appended out.old out.new (32 ∷ pad_to 12 (listed_input_type n)) }
+    ensures near { out.new.at ≤ out.old.at + 42 }
 {
-    put_text(out, at, listed_input_type(n), 12)
+    put_text(out, listed_input_type(n), 12);
 }
 
 // The name of a dimension.
@@ -86,10 +87,10 @@ fn listed_dimension(n: u32) -> &'static [u8]
 }
 
 // Writes a space and the name of a dimension by its number.
-pub(crate) fn put_dimension(out: &mut [u8], at: usize, n: u32) -> usize
-    requires { at + 64 ≤ farthest }
-    ensures text { Put out.old at (32 ∷ pad_to 8 (listed_dimension n)) out.new result }
-    ensures near { result ≤ at + 38 }
+pub(crate) fn put_dimension(out: &mut Output<'_>, n: u32)
+    requires { out.old.at + 64 ≤ farthest }
+    ensures text { Appended out.old out.new (32 ∷ pad_to 8 (listed_dimension n)) }
+    ensures near { out.new.at ≤ out.old.at + 38 }
 {
-    put_text(out, at, listed_dimension(n), 8)
+    put_text(out, listed_dimension(n), 8);
 }

@@ -1,9 +1,11 @@
 // Columns of a listing: a text or a number, filled up with spaces to a width. How far a cursor may be (`farthest`, `near`) is said so that none wraps.
 ghost use Rattle.std.specs.Prelude.{◌≡◌, ◌&&◌, ◌∷◌, ◌+◌, ◌-◌, ◌≤◌, leb, length, replicate};
-ghost use Rattle.words.specs.Splice.{Put};
 ghost use Rattle.text_output.specs.Cursor.{farthest};
 ghost use Rattle.text_output.specs.Digits.{decimal};
+ghost use Rattle.text_output.specs.Output.{Appended};
 ghost use Rattle.listing.specs.Listing.{scalars, pad_to};
+
+use text_output::Output;
 
 // Whether a byte continues a sequence of UTF-8.
 fn continues(b: u8) -> bool
@@ -20,41 +22,42 @@ fn scalar_count(bytes: &[u8]) -> usize
 }
 
 // Writes the spaces that a column lacks which has `used` scalar values.
-fn pad(out: &mut [u8], at: usize, used: usize, width: usize) -> usize
-    requires { (at ≤ farthest) × (width ≤ 20) }
-    ensures { Put out.old at (replicate (width - used) 32) out.new result }
+fn pad(out: &mut Output<'_>, used: usize, width: usize)
+    requires { (out.old.at ≤ farthest) × (width ≤ 20) }
+    ensures { Appended out.old out.new (replicate (width - used) 32) }
 {
     let spaces = [b' '; 20];
-    text_output::put_bytes(out, at, &spaces[..width.saturating_sub(used)])
+    out.put_bytes(&spaces[..width.saturating_sub(used)]);
 }
 
 // Writes a text, filled up.
-pub(crate) fn put_padded(out: &mut [u8], at: usize, bytes: &[u8], width: usize) -> usize
-    requires { (at + length bytes.now ≤ farthest) × (width ≤ 20) }
-    ensures text { Put out.old at (pad_to width bytes.now) out.new result }
-    ensures near { result ≤ at + length bytes.now + width }
+pub(crate) fn put_padded(out: &mut Output<'_>, bytes: &[u8], width: usize)
+    requires { (out.old.at + length bytes.now ≤ farthest) × (width ≤ 20) }
+    ensures text { Appended out.old out.new (pad_to width bytes.now) }
+    ensures near { out.new.at ≤ out.old.at + length bytes.now + width }
 {
-    let end = text_output::put_bytes(out, at, bytes);
-    pad(out, end, scalar_count(bytes), width)
+    out.put_bytes(bytes);
+    pad(out, scalar_count(bytes), width);
 }
 
 // Writes a space and a text, filled up.
-pub(crate) fn put_text(out: &mut [u8], at: usize, bytes: &[u8], width: usize) -> usize
-    requires { (at + 1 + length bytes.now ≤ farthest) × (width ≤ 20) }
-    ensures text { Put out.old at (32 ∷ pad_to width bytes.now) out.new result }
-    ensures near { result ≤ at + 1 + length bytes.now + width }
+pub(crate) fn put_text(out: &mut Output<'_>, bytes: &[u8], width: usize)
+    requires { (out.old.at + 1 + length bytes.now ≤ farthest) × (width ≤ 20) }
+    ensures text { Appended out.old out.new (32 ∷ pad_to width bytes.now) }
+    ensures near { out.new.at ≤ out.old.at + 1 + length bytes.now + width }
 {
-    let start = text_output::put_byte(out, at, b' ');
-    put_padded(out, start, bytes, width)
+    out.put_byte(b' ');
+    put_padded(out, bytes, width);
 }
 
 // Writes a space and a number in decimal, filled up. A digit is one scalar value.
-pub(crate) fn put_number(out: &mut [u8], at: usize, n: u32, width: usize) -> usize
-    requires { (at + 16 ≤ farthest) × (width ≤ 20) }
-    ensures text { Put out.old at (32 ∷ pad_to width (decimal n)) out.new result }
-    ensures near { result ≤ at + 11 + width }
+pub(crate) fn put_number(out: &mut Output<'_>, n: u32, width: usize)
+    requires { (out.old.at + 16 ≤ farthest) × (width ≤ 20) }
+    ensures text { Appended out.old out.new (32 ∷ pad_to width (decimal n)) }
+    ensures near { out.new.at ≤ out.old.at + 11 + width }
 {
-    let start = text_output::put_byte(out, at, b' ');
-    let end = text_output::put_decimal(out, start, n);
-    pad(out, end, end - start, width)
+    out.put_byte(b' ');
+    let start = out.at;
+    out.put_decimal(n);
+    pad(out, out.at - start, width);
 }

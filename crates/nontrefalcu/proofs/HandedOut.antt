@@ -3,18 +3,14 @@
 use Rattle.reflection.specs.Outcome.{Outcome}
 use Rattle.reflection.specs.Refusals.{refusal_number}
 use Rattle.reflection.specs.declared.refusal.Refusal.{Refusal}
-use Rattle.std.specs.Prelude.{Ok, Err}
-use Rattle.read.specs.Answer.{Parsed}
+use Rattle.std.specs.Prelude.{Ok, Err, MatchResult, IsOkAnd}
 use mathlib.Core.Path.{◌≡◌, refl, ap, ◌∙◌}
 use mathlib.Core.List.{List}
 use Prim.Native.Nat.{ℕ}
-use native.Mathlib.Omega.{arith}
 use lib.ListN.{replicate}
 use Rattle.words.specs.Splice.{splice}
 use Rattle.reflection.specs.declared.Text.{Text}
-use Rattle.reflection.specs.declared.ResourceDef.{ResourceDef as Header}
 use Rattle.reflection.specs.Reflection.{ResourceDef}
-use Rattle.tables.specs.Tables.{header_of}
 use Rattle.read.specs.Parsed.{parsed_of}
 use Rattle.nontrefalcu.specs.Exports.{number_of, result_table, header_words_in_table, header_table}
 
@@ -36,22 +32,30 @@ module _ {A : Type 0} {out : Outcome A} where
     unfolding result_table
     refused_table refusal = rw refusal zeros
 
--- the reader's answer says which outcome there was
-module _ {r : Parsed} where
-  pub parsed_refused : (out : Outcome (ResourceDef Text Text)) {e : Refusal} → r ≡ parsed_of out → r ≡ Err e → out ≡ Err e
-  unfolding parsed_of
-  parsed_refused (Ok def) answer refusal = absurd (let apart : ◌≡◌ {A = ℕ} 0 1 = cc in omega arith)
-  parsed_refused (Err d) {e} answer refusal = let same : d ≡ e = cc in ap Err same
+-- an answer whose value was made into words
+module _ {A : Type 0} (words : A → List ℕ) where
+  abbrev pub Mapped : Outcome A → Outcome (List ℕ) → Type 0
+  Mapped out r = MatchResult out (λ x. IsOkAnd r (λ row. row ≡ words x)) (λ e. r ≡ Err e)
 
-  pub read_number : (out : Outcome (ResourceDef Text Text)) {h : Header} → r ≡ parsed_of out → r ≡ Ok h → 0 ≡ number_of out
-  unfolding parsed_of
-  read_number (Ok def) answer read = value_number refl
-  read_number (Err d) answer read = absurd (let apart : ◌≡◌ {A = ℕ} 0 1 = cc in omega arith)
+  pub mapped_number : (out : Outcome A) (r : Outcome (List ℕ)) → Mapped out r → number_of r ≡ number_of out
+  unfolding number_of
+  mapped_number (Ok x) (Ok row) is = refl
+  mapped_number (Ok x) (Err e) is = absurd is
+  mapped_number (Err d) r is = rw is
 
-  pub read_header : (out : Outcome (ResourceDef Text Text)) (n : ℕ) {h : Header} {cleared put header : List ℕ} → r ≡ parsed_of out → r ≡ Ok h
-      → cleared ≡ replicate n 0 → put ≡ header_words_in_table h → header ≡ splice cleared 0 put → header ≡ header_table out n
-  unfolding parsed_of
-  read_header (Ok def) n {h} answer read zeros words put =
-      let same : h ≡ header_of def = cc in
-      value_table (λ (d : ResourceDef Text Text). header_words_in_table (header_of d)) n zeros refl (words ∙ ap header_words_in_table same) put
-  read_header (Err d) n answer read zeros words put = absurd (let apart : ◌≡◌ {A = ℕ} 0 1 = cc in omega arith)
+  pub mapped_table : (out : Outcome A) (r : Outcome (List ℕ)) (n : ℕ) → Mapped out r → result_table (λ w. w) r n ≡ result_table words out n
+  unfolding result_table
+  mapped_table (Ok x) (Ok row) n is = ap (splice (replicate n 0) 0) is
+  mapped_table (Ok x) (Err e) n is = absurd is
+  mapped_table (Err d) r n is = rw is
+
+-- the reader's answer is its outcome's
+pub parsed_number : (out : Outcome (ResourceDef Text Text)) → number_of (parsed_of out) ≡ number_of out
+unfolding parsed_of number_of
+parsed_number (Ok def) = refl
+parsed_number (Err e) = refl
+
+pub parsed_table : (out : Outcome (ResourceDef Text Text)) (n : ℕ) → result_table header_words_in_table (parsed_of out) n ≡ header_table out n
+unfolding parsed_of result_table
+parsed_table (Ok def) n = refl
+parsed_table (Err e) n = refl

@@ -22,7 +22,6 @@ use Rattle.text_output.specs.Written.{fits_in, fitting}
 use Rattle.write_spec.specs.Canonical.{canonical}
 use Rattle.write_spec.specs.Payload.{Part, whole_chunk, written, unedited, as_part, payload_of, payload}
 use Rattle.payload.specs.declared.Payload.{Payload}
-use Rattle.payload.specs.declared.Payload.TheVariants.{Chunk, Output}
 use Rattle.payload.specs.Answer.{payload_with, payload_answer}
 use Rattle.nontrefalcu.specs.Exports.{number_of, result_table}
 use Rattle.nontrefalcu.specs.PayloadWords.{PayloadFits, payload_outcome, payload_words, payload_table}
@@ -39,13 +38,6 @@ unfolding payload_answer payload_outcome result_table payload_words
 answer_table chunk (Ok whole_chunk) n = refl
 answer_table chunk (Ok (written bytes)) n = refl
 answer_table chunk (Err e) n = refl
-
-module _ {payload : Outcome Payload} (long : ℕ) where
-  pub chunk-fits : PayloadFits long payload → payload ≡ Ok Chunk → long ≤ chunk_limit
-  chunk-fits fits is = rw is at fits
-
-  pub output_fits : {n : ℕ} → PayloadFits long payload → payload ≡ Ok (Output n) → n ≤ chunk_limit
-  output_fits fits is = rw is at fits
 
 written_fits : (long room : ℕ) (bytes : Bytes) (fits : Bool) → fits_in room (length bytes) ≡ fits
     → PayloadFits long (payload_answer (as_part (cond fits (Ok bytes) (Err OutputTooSmall))))

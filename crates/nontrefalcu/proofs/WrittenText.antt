@@ -5,7 +5,7 @@ use Rattle.std.specs.Prelude.{Ok, Err, Option}
 use mathlib.Core.Path.{◌≡◌, refl, ap, ◌∙◌}
 use mathlib.Core.Bool.{Bool, true, false, cond}
 use mathlib.Core.List.{List}
-use Prim.Native.Nat.{ℕ, min, ◌≤◌}
+use Prim.Native.Nat.{ℕ, min}
 use native.Mathlib.Omega.{arith}
 use borrow.Author.Tests.{leb-true}
 use lib.Dec.{leb}
@@ -51,9 +51,6 @@ module _ {written : Written} where
   pub canonical_fits : (scratch room : ℕ) (r : Option (ResourceDef Bytes Bytes)) → written ≡ written_of (write scratch room r) → LengthFits written
   unfolding write
   canonical_fits scratch room r answer = rw answer (fits_by_scratch (leb scratch_size scratch) room (canonical_or16 r))
-
-  pub wrote_fits : {n : ℕ} → LengthFits written → written ≡ Ok n → n ≤ chunk_limit
-  wrote_fits fits wrote = rw wrote at fits
 
   -- what the writing function and `hand_length` ensure, for the outcome that was asked for
   module _ {out asked : Outcome (List ℕ)} (same : out ≡ asked) (lent old : List ℕ) {r : ℕ} {bytes words : List ℕ} where

@@ -5,6 +5,8 @@ ghost use Rattle.nontrefalcu.specs.Left.{TextLeft};
 
 use crate::answer::hand_length;
 use crate::header::header_at;
+use reflection::Texts;
+use tables::Reflection;
 
 // `write::write_rdef_canonical` of the reflection that the header's words and the tables hold: 0, and the written length in `length`; or the refusal's
 // number, and zeros in `out` and `length`. The scratch is zeroed in any case.
@@ -25,9 +27,13 @@ pub fn nontrefalcu_write_canonical<'a>(
         out.old out.new length.old length.new result }
     ensures scratch { scratch.new ≡ replicate (size scratch.old) 0 }
 {
-    let def = header_at(header);
-    let written = write::write_rdef_canonical(
-        chunk, edits, def, bindings, buffers, variables, types, scratch, out,
-    );
+    let r = Reflection {
+        def: header_at(header),
+        bindings,
+        buffers,
+        variables,
+        types,
+    };
+    let written = write::write_rdef_canonical(Texts { chunk, edits }, r, scratch, out);
     hand_length(written, length)
 }

@@ -1,17 +1,41 @@
-// The header's words read back.
+// A header as words, and read back.
 ghost use Rattle.std.specs.Prelude.{◌≡◌, get_or};
-ghost use Rattle.nontrefalcu.specs.Exports.{header_at};
+ghost use Rattle.nontrefalcu.specs.Exports.{header_at, header_words_in_table};
 
-use reflection::{Rd11Header, ResourceDef, Text};
+use reflection::{HEADER_WORDS, Rd11Header, ResourceDef, Text};
+
+// The header's words.
+#[tactic(auto, unfolding(crate::specs::Exports::header_words_in_table))]
+pub(crate) fn header_words(def: ResourceDef) -> [u32; HEADER_WORDS]
+    ensures { result ≡ header_words_in_table def }
+{
+    let creator = def.creator;
+    let rd11 = def.rd11;
+    [
+        def.target_version,
+        def.compile_flags,
+        creator.source,
+        creator.place,
+        creator.length,
+        rd11.identifier,
+        rd11.resource_binding_stride,
+        rd11.interface_slot_count,
+        def.binding_count,
+        def.buffer_count,
+        def.variable_count,
+        def.type_count,
+    ]
+}
 
 // Word i, 0 past the end.
 fn word_of(words: &[u32], i: usize) -> u32
     ensures { result ≡ get_or words.now i 0 }
 {
-    if i < words.len() { words[i] } else { 0 }
+    words.get(i).map_or(0, |&word| word)
 }
 
 // The header of these words; those that are missing are 0: C may lend fewer words (docs/ROOM.md).
+#[tactic(auto, unfolding(crate::specs::Exports::header_at))]
 pub(crate) fn header_at(words: &[u32]) -> ResourceDef
     ensures { result ≡ header_at words.now }
 {

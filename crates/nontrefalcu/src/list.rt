@@ -3,6 +3,7 @@ ghost use Rattle.nontrefalcu.specs.Exports.{listed_into};
 ghost use Rattle.nontrefalcu.specs.Left.{TextLeft};
 
 use crate::answer::hand_length;
+use reflection::Texts;
 
 // `listing::list_binding` of the binding that is record 0 of `binding_words`: 0, and the written length in `length`; or the refusal's number, and zeros
 // everywhere.
@@ -17,6 +18,6 @@ pub fn nontrefalcu_list_binding<'a>(
         out.old out.new length.old length.new result }
 {
     let b = tables::binding_at(binding_words, 0);
-    let written = listing::list_binding(chunk, edits, b, out);
+    let written = listing::list_binding(Texts { chunk, edits }, b, out);
     hand_length(written, length)
 }

@@ -1,32 +1,11 @@
 // Reading a chunk.
 ghost use Rattle.std.specs.Prelude.{◌≡◌};
 ghost use Rattle.read.specs.Parsed.{read_into};
-ghost use Rattle.nontrefalcu.specs.Exports.{header_words_in_table};
 ghost use Rattle.nontrefalcu.specs.Left.{ParseLeft};
 
-use reflection::ResourceDef;
-
-// The header's words.
-fn header_words(def: ResourceDef) -> [u32; reflection::HEADER_WORDS]
-    ensures { result ≡ header_words_in_table def }
-{
-    let creator = def.creator;
-    let rd11 = def.rd11;
-    [
-        def.target_version,
-        def.compile_flags,
-        creator.source,
-        creator.place,
-        creator.length,
-        rd11.identifier,
-        rd11.resource_binding_stride,
-        rd11.interface_slot_count,
-        def.binding_count,
-        def.buffer_count,
-        def.variable_count,
-        def.type_count,
-    ]
-}
+use crate::answer::hand;
+use crate::header::header_words;
+use tables::Tables;
 
 // `read::parse_rdef` with its answer as numbers: 0, and the header's words in `header`; or the refusal's number, and zeros everywhere.
 pub fn nontrefalcu_parse_rdef(
@@ -42,14 +21,12 @@ pub fn nontrefalcu_parse_rdef(
         header.old bindings.old buffers.old variables.old types.old
         header.new bindings.new buffers.new variables.new types.new result }
 {
-    words::clear(header);
-    let parsed = read::parse_rdef(chunk, bindings, buffers, variables, types);
-    match parsed {
-        Err(refusal) => u32::from(refusal),
-        Ok(def) => {
-            let words = header_words(def);
-            words::overwrite(header, 0, &words);
-            0
-        }
-    }
+    let mut tables = Tables {
+        bindings,
+        buffers,
+        variables,
+        types,
+    };
+    let parsed = read::parse_rdef(chunk, &mut tables);
+    hand(parsed.map(header_words), header)
 }

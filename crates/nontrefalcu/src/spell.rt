@@ -1,9 +1,11 @@
 // The spelling of types, written and read.
 ghost use Rattle.std.specs.Prelude.{◌≡◌, length as size};
-ghost use Rattle.nontrefalcu.specs.Exports.{number_of, spelling_table, type_name_into, declaration_into, type_read};
+ghost use Rattle.nontrefalcu.specs.Exports.{number_of, spelling_table, spelling_words, type_name_into, declaration_into, type_read};
 ghost use Rattle.nontrefalcu.specs.Left.{TextLeft};
 
-use crate::answer::hand_length;
+use crate::answer::{hand, hand_length};
+use reflection::Texts;
+use spelling_parse::TypeSpelling;
 
 // `spelling::hlsl_type_name` of the type that is record 0 of `type_words`: 0, and the written length in `length`; or the refusal's number, and zeros
 // everywhere.
@@ -18,7 +20,7 @@ pub fn nontrefalcu_type_name<'a>(
         out.old out.new length.old length.new result }
 {
     let t = tables::type_at(type_words, 0);
-    let written = spelling::hlsl_type_name(chunk, edits, t, out);
+    let written = spelling::hlsl_type_name(Texts { chunk, edits }, t, out);
     hand_length(written, length)
 }
 
@@ -36,10 +38,17 @@ pub fn nontrefalcu_declaration<'a>(
         out.old out.new length.old length.new result }
 {
     let t = tables::type_at(type_words, 0);
-    let variable = tables::variable_at(variable_words, 0);
-    let name = variable.name;
-    let written = spelling::declaration(chunk, edits, t, name, out);
+    let name = tables::variable_at(variable_words, 0).name;
+    let written = spelling::declaration(Texts { chunk, edits }, t, name, out);
     hand_length(written, length)
+}
+
+// A spelling's numbers.
+#[tactic(auto, unfolding(crate::specs::Exports::spelling_words))]
+fn spelling_words(s: TypeSpelling) -> [u32; 5]
+    ensures { result ≡ spelling_words s }
+{
+    [s.class, s.base, s.rows, s.columns, s.elements]
 }
 
 // `spelling_parse::parse_hlsl_type`: 0, and class, base, rows, columns and elements in `numbers`; or 18, and zeros.
@@ -47,14 +56,6 @@ pub fn nontrefalcu_parse_type(text: &[u8], numbers: &mut [u32]) -> u32
     ensures answer { result ≡ number_of (type_read text.now) }
     ensures numbers { numbers.new ≡ spelling_table (type_read text.now) (size numbers.old) }
 {
-    words::clear(numbers);
     let spelled = spelling_parse::parse_hlsl_type(text);
-    match spelled {
-        Err(refusal) => u32::from(refusal),
-        Ok(s) => {
-            let five = [s.class, s.base, s.rows, s.columns, s.elements];
-            words::overwrite(numbers, 0, &five);
-            0
-        }
-    }
+    hand(spelled.map(spelling_words), numbers)
 }

@@ -1,37 +1,27 @@
 // The payload.
-ghost use Rattle.std.specs.Prelude.{◌≡◌, Ok, length as size, replicate};
-ghost use Rattle.nontrefalcu.specs.Exports.{number_of, result_table};
-ghost use Rattle.nontrefalcu.specs.PayloadWords.{PayloadFits, payload_pair, payload_outcome, payload_into};
+ghost use Rattle.std.specs.Prelude.{◌≡◌, length as size, replicate};
+ghost use Rattle.nontrefalcu.specs.PayloadWords.{PayloadFits, payload_outcome, payload_into};
 ghost use Rattle.nontrefalcu.specs.Left.{PayloadLeft};
 
+use crate::answer::hand;
 use crate::header::header_at;
 use payload::Payload;
-use reflection::Refusal;
+use reflection::{Refusal, Texts};
+use tables::{Reflection, Tables};
 
 // 0 for the chunk or 1 for the output, and how many bytes.
-fn payload_words(payload: Payload, chunk_length: usize) -> [u32; 2]
-    requires { PayloadFits chunk_length (Ok payload) }
-    ensures { result ≡ payload_pair chunk_length payload }
-{
-    match payload {
-        Payload::Chunk => [0, chunk_length as u32],
-        Payload::Output(n) => [1, n as u32],
-    }
-}
-
-// 0, and the payload's two words in `answer`; or the refusal's number, and zeros.
-fn hand_payload(payload: Result<Payload, Refusal>, chunk_length: usize, answer: &mut [u32]) -> u32
+#[tactic(auto, unfolding(crate::specs::PayloadWords::payload_outcome))]
+fn payload_words(
+    payload: Result<Payload, Refusal>,
+    chunk_length: usize,
+) -> Result<[u32; 2], Refusal>
     requires { PayloadFits chunk_length payload }
-    ensures answer { result ≡ number_of (payload_outcome chunk_length payload) }
-    ensures words { answer.new ≡ result_table (λ w. w) (payload_outcome chunk_length payload) (size answer.old) }
+    ensures { result ≡ payload_outcome chunk_length payload }
 {
-    words::clear(answer);
     match payload {
-        Err(refusal) => u32::from(refusal),
-        Ok(handed) => {
-            words::overwrite(answer, 0, &payload_words(handed, chunk_length));
-            0
-        }
+        Ok(Payload::Chunk) => Ok([0, chunk_length as u32]),
+        Ok(Payload::Output(n)) => Ok([1, n as u32]),
+        Err(refusal) => Err(refusal),
     }
 }
 
@@ -65,21 +55,19 @@ pub fn nontrefalcu_write_payload<'a>(
     ensures types { found_types.new ≡ replicate (size found_types.old) 0 }
     ensures scratch { scratch.new ≡ replicate (size scratch.old) 0 }
 {
-    let def = header_at(header);
-    let payload = payload::write_payload(
-        chunk,
-        edits,
-        def,
+    let r = Reflection {
+        def: header_at(header),
         bindings,
         buffers,
         variables,
         types,
-        found_bindings,
-        found_buffers,
-        found_variables,
-        found_types,
-        scratch,
-        out,
-    );
-    hand_payload(payload, chunk.len(), answer)
+    };
+    let mut found = Tables {
+        bindings: found_bindings,
+        buffers: found_buffers,
+        variables: found_variables,
+        types: found_types,
+    };
+    let payload = payload::write_payload(Texts { chunk, edits }, r, &mut found, scratch, out);
+    hand(payload_words(payload, chunk.len()), answer)
 }

@@ -1,5 +1,6 @@
 mod Answers
 mod Contents
+mod Lengths
 mod Found
 mod Comparing
 mod Wider

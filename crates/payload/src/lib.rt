@@ -1,12 +1,16 @@
 // The payload of a reflection: the chunk itself where nothing was edited, else its canonical form (document 01, "What a reflection holds").
 #![tactic(auto)]
 
-ghost use Rattle.std.specs.Prelude.{◌≡◌, true, ◌≤◌, Err, length, replicate};
+ghost use Rattle.std.specs.Prelude.{◌≡◌, true, ℕ, ◌<◌, ◌≤◌, Err, get_or, length, replicate};
 ghost use Rattle.reflection.specs.Limits.{binding_table, buffer_table, variable_table, type_table};
+ghost use Rattle.tables.specs.Lent.{SameTables, TablesZeroed};
+ghost use Rattle.read.specs.Parsed.{read_in, TablesParsed};
+ghost use Rattle.payload.specs.Lengths.{TablesAsLong};
 ghost use Rattle.readable.specs.Readable.{table_contents, readable};
 ghost use Rattle.payload.specs.Answer.{room_enough, unedited_held, written_answer, payload_into, PayloadWritten, payload_part, payload_place};
 
-use reflection::{Refusal, ResourceDef};
+use reflection::{Refusal, ResourceDef, Texts};
+use tables::{Reflection, Tables};
 
 // What is handed back: the chunk, or so many bytes of the output.
 #[derive(Clone, Copy, Debug, PartialEq, Eq)]
@@ -17,13 +21,15 @@ pub enum Payload {
 
 // Whether the four tables and the scratch have the words that the payload needs.
 #[tactic(auto, unfolding(crate::specs::Answer::room_enough))]
-fn enough(bindings: usize, buffers: usize, variables: usize, types: usize, scratch: usize) -> bool
-    ensures { result ≡ room_enough bindings buffers variables types scratch }
+fn enough(tables: &Tables<'_>, scratch: &[u32]) -> bool
+    ensures { result ≡ room_enough (length tables.now.bindings.now) (length tables.now.buffers.now) (length tables.now.variables.now)
+        (length tables.now.types.now) (length scratch.now) }
 {
-    reflection::BINDING_TABLE <= bindings
-        && (reflection::BUFFER_TABLE <= buffers
-            && (reflection::VARIABLE_TABLE <= variables
-                && (reflection::TYPE_TABLE <= types && write_spec::SCRATCH_WORDS <= scratch)))
+    reflection::BINDING_TABLE <= tables.bindings.len()
+        && reflection::BUFFER_TABLE <= tables.buffers.len()
+        && reflection::VARIABLE_TABLE <= tables.variables.len()
+        && reflection::TYPE_TABLE <= tables.types.len()
+        && write_spec::SCRATCH_WORDS <= scratch.len()
 }
 
 // A refusal: the output is zeroed.
@@ -41,165 +47,81 @@ fn written_payload(written: Result<usize, Refusal>) -> Result<Payload, Refusal>
     written.map(Payload::Output)
 }
 
-// Whether the chunk reads as the reflection. It is read into the four lent tables.
-fn unedited<'a>(
-    chunk: &'a [u8],
-    edits: &'a [u8],
-    def: ResourceDef,
-    bindings: &[u32],
-    buffers: &[u32],
-    variables: &[u32],
-    types: &[u32],
-    found_bindings: &mut [u32],
-    found_buffers: &mut [u32],
-    found_variables: &mut [u32],
-    found_types: &mut [u32],
-) -> bool
-    requires types_value { readable chunk.now edits.now def bindings.now buffers.now variables.now types.now ≡ true }
-    requires binding_table_in_bounds { (binding_table ≤ length found_bindings.old) × ((buffer_table ≤ length found_buffers.old)
-        × ((variable_table ≤ length found_variables.old) × (type_table ≤ length found_types.old))) }
-    ensures answer { result ≡ unedited_held chunk.now (table_contents chunk.now edits.now def
-        bindings.now buffers.now variables.now types.now) }
-    ensures bindings { length found_bindings.new ≡ length found_bindings.old }
-    ensures buffers { length found_buffers.new ≡ length found_buffers.old }
-    ensures variables { length found_variables.new ≡ length found_variables.old }
-    ensures types { length found_types.new ≡ length found_types.old }
+// `read::parse_rdef`, and what its caller needs beside: the tables are as long as they were, and the chunk holds bytes.
+fn read_again(chunk: &[u8], found: &mut Tables<'_>) -> Result<ResourceDef, Refusal>
+    ensures parsed { TablesParsed (read_in chunk.now found.old) found.old found.new result }
+    ensures lengths { TablesAsLong found.old found.new }
+    ensures bytes { (i : ℕ) → get_or chunk.now i 0 < 256 }
+    ensures same { SameTables found.old found.new }
 {
-    let parsed = read::parse_rdef(
-        chunk,
-        found_bindings,
-        found_buffers,
-        found_variables,
-        found_types,
-    );
-    match parsed {
+    read::parse_rdef(chunk, found)
+}
+
+// Whether the chunk reads as the reflection. It is read into the four lent tables.
+fn unedited(texts: Texts<'_>, r: Reflection<'_>, found: &mut Tables<'_>) -> bool
+    requires types_value { readable texts.chunk.now texts.edits.now r.def r.bindings.now r.buffers.now r.variables.now r.types.now ≡ true }
+    requires binding_table_in_bounds { (binding_table ≤ length found.old.bindings.now) × ((buffer_table ≤ length found.old.buffers.now)
+        × ((variable_table ≤ length found.old.variables.now) × (type_table ≤ length found.old.types.now))) }
+    ensures answer { result ≡ unedited_held texts.entry.chunk.now (table_contents texts.entry.chunk.now texts.entry.edits.now r.entry.def
+        r.entry.bindings.now r.entry.buffers.now r.entry.variables.now r.entry.types.now) }
+    ensures lengths { TablesAsLong found.old found.new }
+    ensures same { SameTables found.old found.new }
+{
+    match read_again(texts.chunk, found) {
         Err(_) => false,
-        Ok(found) => compare::same_reflection(
-            chunk,
-            edits,
-            found,
-            found_bindings,
-            found_buffers,
-            found_variables,
-            found_types,
-            def,
-            bindings,
-            buffers,
-            variables,
-            types,
-        ),
+        Ok(def) => compare::same_reflection(texts, found.reflection(def), r),
     }
 }
 
 // The payload; the four tables and the scratch are left as they come.
-fn find_payload<'a>(
-    chunk: &'a [u8],
-    edits: &'a [u8],
-    def: ResourceDef,
-    bindings: &[u32],
-    buffers: &[u32],
-    variables: &[u32],
-    types: &[u32],
-    found_bindings: &mut [u32],
-    found_buffers: &mut [u32],
-    found_variables: &mut [u32],
-    found_types: &mut [u32],
+fn find_payload(
+    texts: Texts<'_>,
+    r: Reflection<'_>,
+    found: &mut Tables<'_>,
     scratch: &mut [u32],
     out: &mut [u8],
 ) -> Result<Payload, Refusal>
-    ensures payload { PayloadWritten
-        (payload_into found_bindings.old found_buffers.old found_variables.old found_types.old
-        scratch.old out.old chunk.now edits.now def
-        bindings.now buffers.now variables.now types.now)
-        out.old out.new result }
-    ensures bindings { length found_bindings.new ≡ length found_bindings.old }
-    ensures buffers { length found_buffers.new ≡ length found_buffers.old }
-    ensures variables { length found_variables.new ≡ length found_variables.old }
-    ensures types { length found_types.new ≡ length found_types.old }
+    ensures payload { PayloadWritten (payload_into found.old.bindings.now found.old.buffers.now found.old.variables.now found.old.types.now
+        scratch.old out.old texts.entry.chunk.now texts.entry.edits.now r.entry.def
+        r.entry.bindings.now r.entry.buffers.now r.entry.variables.now r.entry.types.now) out.old out.new result }
+    ensures lengths { TablesAsLong found.old found.new }
+    ensures same { SameTables found.old found.new }
     ensures scratch { length scratch.new ≡ length scratch.old }
 {
-    if !enough(
-        found_bindings.len(),
-        found_buffers.len(),
-        found_variables.len(),
-        found_types.len(),
-        scratch.len(),
-    ) {
+    if !enough(found, scratch) {
         return refuse(out, Refusal::NoRoom);
     }
-    if !readable::readable(chunk, edits, def, bindings, buffers, variables, types) {
+    if !readable::readable(texts, r) {
         return refuse(out, Refusal::NotReadable);
     }
-    if unedited(
-        chunk,
-        edits,
-        def,
-        bindings,
-        buffers,
-        variables,
-        types,
-        found_bindings,
-        found_buffers,
-        found_variables,
-        found_types,
-    ) {
+    if unedited(texts, r, found) {
         return Ok(Payload::Chunk);
     }
-    let written = write::write_rdef_canonical(
-        chunk, edits, def, bindings, buffers, variables, types, scratch, out,
-    );
-    written_payload(written)
+    written_payload(write::write_rdef_canonical(texts, r, scratch, out))
 }
 
-// The payload of the reflection that the tables hold. The chunk is read again into the four lent tables `found_…`, which are scratch: 15 where one has
+// The payload of a reflection. The chunk is read again into the four lent tables `found`, which are scratch: 15 where one has
 // not document 01's whole room or the scratch is shorter than `write_spec::SCRATCH_WORDS`; 16 where the reflection is not readable; then the chunk where it
 // reads as this reflection, however short the output, which is then untouched; else the canonical form, or 17 where it is longer than the output or than
 // 65,536 bytes. The four tables and the scratch are zeroed in any case, the output by a refusal; bytes past the written length are as they were.
-pub fn write_payload<'a>(
-    chunk: &'a [u8],
-    edits: &'a [u8],
-    def: ResourceDef,
-    bindings: &[u32],
-    buffers: &[u32],
-    variables: &[u32],
-    types: &[u32],
-    found_bindings: &mut [u32],
-    found_buffers: &mut [u32],
-    found_variables: &mut [u32],
-    found_types: &mut [u32],
+pub fn write_payload(
+    texts: Texts<'_>,
+    r: Reflection<'_>,
+    found: &mut Tables<'_>,
     scratch: &mut [u32],
     out: &mut [u8],
 ) -> Result<Payload, Refusal>
     ensures payload { PayloadWritten
-        (payload_into found_bindings.old found_buffers.old found_variables.old found_types.old
-        scratch.old out.old chunk.now edits.now def
-        bindings.now buffers.now variables.now types.now)
+        (payload_into found.old.bindings.now found.old.buffers.now found.old.variables.now found.old.types.now
+        scratch.old out.old texts.entry.chunk.now texts.entry.edits.now r.entry.def
+        r.entry.bindings.now r.entry.buffers.now r.entry.variables.now r.entry.types.now)
         out.old out.new result }
-    ensures bindings { found_bindings.new ≡ replicate (length found_bindings.old) 0 }
-    ensures buffers { found_buffers.new ≡ replicate (length found_buffers.old) 0 }
-    ensures variables { found_variables.new ≡ replicate (length found_variables.old) 0 }
-    ensures types { found_types.new ≡ replicate (length found_types.old) 0 }
+    ensures tables { TablesZeroed found.old found.new }
+    ensures same { SameTables found.old found.new }
     ensures scratch { scratch.new ≡ replicate (length scratch.old) 0 }
 {
-    let payload = find_payload(
-        chunk,
-        edits,
-        def,
-        bindings,
-        buffers,
-        variables,
-        types,
-        found_bindings,
-        found_buffers,
-        found_variables,
-        found_types,
-        scratch,
-        out,
-    );
-    words::clear(found_bindings);
-    words::clear(found_buffers);
-    words::clear(found_variables);
-    words::clear(found_types);
+    let payload = find_payload(texts, r, found, scratch, out);
+    found.clear();
     words::clear(scratch);
     payload
 }

@@ -6,13 +6,13 @@ use Rattle.std.specs.Prelude.{Ok, Err}
 use mathlib.Core.Path.{◌≡◌, refl, sym, ap, ◌∙◌}
 use mathlib.Core.Bool.{Bool, true, false}
 use mathlib.Core.List.{List, []}
-use Prim.Native.Nat.{ℕ, ◌*◌, ◌-◌, ◌/◌, ◌≤◌, ◌<◌, min}
+use Prim.Native.Nat.{ℕ, ◌*◌, ◌-◌, ◌/◌, ◌≤◌, ◌<◌}
 use native.Mathlib.Nat.{mul_comm, mul-le-mul_right, div-mul-le_self, eq_of_mul-eq-mul_left}
 use native.Mathlib.Omega.{arith}
 use lib.ListN.{length, take}
 use lib.Seq.{length-take-le}
 use Rattle.words.specs.Words.{word_at}
-use Rattle.reflection.specs.Limits.{binding_room, buffer_room, variable_room, type_room, binding_width, buffer_width, variable_width}
+use Rattle.reflection.specs.Limits.{binding_width, buffer_width, variable_width}
 use Rattle.reflection.specs.Limits.{type_width}
 use Rattle.reflection.specs.Strides.{buffer_stride}
 use Rattle.reflection.specs.declared.Text.{Text}
@@ -34,7 +34,7 @@ use Rattle.read_tables.specs.Buffers.{TableWords, append_buffer, buffers_progres
 use Rattle.read.specs.declared.ChunkHeader.{ChunkHeader}
 use Rattle.read.specs.Parsed.{parsed_of, read_into}
 use Rattle.read.specs.Header.{rd11_from_chunk, Headed}
-use Rattle.read.specs.Filled.{rows_of, Filled}
+use Rattle.read.specs.Filled.{IsRoom, rows_of, Filled}
 use Rattle.read.proofs.Rows.{rows_length, binding_width_lem, buffer_width_lem, variable_width_lem}
 use Rattle.read.proofs.Rows.{type_width_lem, bindings_append_rows, buffers_append_rows}
 use Rattle.read.proofs.Progress.{WasRead, stopped_refused, reached_read}
@@ -109,18 +109,6 @@ pub header_refused : (s : List ℕ) {b f v t : List ℕ} (e : Refusal) → Heade
 unfolding read_into read
 header_refused s {b} {f} {v} {t} e headed = refused_filled b f v t e (ap without_room (headed _))
 
--- The capacity is the room of the tables b, f, v and t.
-pub record IsRoom (b f v t : List ℕ) (capacity : Counts) : Type 0 where
-  pub bindings : capacity.bindings ≡ min (length b / binding_width) binding_room
-  pub buffers : capacity.buffers ≡ min (length f / buffer_width) buffer_room
-  pub variables : capacity.variables ≡ min (length v / variable_width) variable_room
-  pub types : capacity.types ≡ min (length t / type_width) type_room
-
-pub is_room_by : (b f v t : List ℕ) {x y z w : ℕ} → x ≡ min (length b / binding_width) binding_room → y ≡ min (length f / buffer_width) buffer_room
-    → z ≡ min (length v / variable_width) variable_room → w ≡ min (length t / type_width) type_room
-    → IsRoom b f v t (record { bindings = x; buffers = y; variables = z; types = w })
-is_room_by b f v t bindings buffers variables types = record { bindings = bindings; buffers = buffers; variables = variables; types = types }
-
 all_left : {n k : ℕ} → n ≡ k → k ≡ n - 0
 all_left e = omega (arith, e)
 
@@ -170,9 +158,9 @@ module _ (s : List ℕ) {b f v t : List ℕ} {capacity : Counts} (is-room : IsRo
         → progress (append_all append_binding) (read_bindings start) [] ≡ answered capacity (bindings_in b₁) answer
     bindings_outcome walked = (λ i. bindings_progress s (sym valid.1.0 i) (sym count-is i) (sym first-is i) [] start) ∙ walked.outcome
 
-    pub bindings_refused : {f₁ v₁ t₁ : List ℕ} (e : Refusal) → BindingsWalked s wide count first capacity b b₁ (Err e) → Filled out b₁ f₁ v₁ t₁ (Err e)
-    bindings_refused {f₁} {v₁} {t₁} e walked =
-        refused_filled b₁ f₁ v₁ t₁ e
+    pub bindings_refused : {b₂ f₂ v₂ t₂ : List ℕ} (e : Refusal) → BindingsWalked s wide count first capacity b b₁ (Err e) → Filled out b₂ f₂ v₂ t₂ (Err e)
+    bindings_refused {b₂} {f₂} {v₂} {t₂} e walked =
+        refused_filled b₂ f₂ v₂ t₂ e
         (out_from_bindings
         ∙ ap (λ (x : Outcome (List (ResourceBinding Text) × Room)). without_room (and_then x with_buffers))
         (stopped_refused (append_all append_binding) [] (read_bindings start) e (bindings_outcome walked)))
@@ -206,9 +194,10 @@ module _ (s : List ℕ) {b f v t : List ℕ} {capacity : Counts} (is-room : IsRo
             → progress (append_all append_buffer) (read_buffers left) ([], ([], [])) ≡ answered capacity (buffers_in f₁ v₁ t₁) fanswer
         buffers_outcome fwalked = (λ i. buffers_progress s (sm5_is s sm5 i) (sym fcount-is i) (sym ffirst-is i) (others_empty i) left) ∙ fwalked.outcome
 
-        pub buffers_refused : (e : Refusal) → BuffersWalked s sm5 fcount ffirst capacity m f v t f₁ v₁ t₁ (Err e) → Filled out b₁ f₁ v₁ t₁ (Err e)
-        buffers_refused e fwalked =
-            refused_filled b₁ f₁ v₁ t₁ e
+        pub buffers_refused : {b₂ f₂ v₂ t₂ : List ℕ} (e : Refusal) → BuffersWalked s sm5 fcount ffirst capacity m f v t f₁ v₁ t₁ (Err e)
+            → Filled out b₂ f₂ v₂ t₂ (Err e)
+        buffers_refused {b₂} {f₂} {v₂} {t₂} e fwalked =
+            refused_filled b₂ f₂ v₂ t₂ e
             (out_from_buffers
             ∙ ap (λ (x : Outcome (List (CBufferDef Text Text) × Room)). without_room (and_then x (λ fs. return (whole bindings_read.value fs))))
             (stopped_refused (append_all append_buffer) ([], ([], [])) (read_buffers left) e (buffers_outcome fwalked)))

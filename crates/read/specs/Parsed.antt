@@ -4,6 +4,7 @@ use Rattle.read.specs.Answer.{Parsed}
 use Rattle.std.specs.Prelude.{◌≡◌, List, ℕ, length, Ok, Err}
 use Rattle.reflection.specs.declared.Text.{Text}
 use Rattle.reflection.specs.Reflection.{ResourceDef}
+use Rattle.tables.specs.declared.lent.Tables.{Tables}
 use Rattle.tables.specs.Tables.{binding_rows, buffer_rows, variable_rows, type_rows, table, header_of}
 use Rattle.read_spec.specs.Step.{room_of}
 use Rattle.read_spec.specs.Read.{read}
@@ -25,3 +26,12 @@ pub record ParsedInto (outcome : Outcome (ResourceDef Text Text))
   pub buffers : buffers₁ ≡ table buffer_rows outcome (length buffers₀)
   pub variables : variables₁ ≡ table variable_rows outcome (length variables₀)
   pub types : types₁ ≡ table type_rows outcome (length types₀)
+
+-- The same of four tables that are lent together.
+abbrev pub read_in : List ℕ → Tables → Outcome (ResourceDef Text Text)
+read_in chunk t = read_into chunk t.bindings.now t.buffers.now t.variables.now t.types.now
+
+abbrev pub TablesParsed : Outcome (ResourceDef Text Text) → Tables → Tables → Parsed → Type 0
+TablesParsed outcome before after r =
+    ParsedInto outcome before.bindings.now before.buffers.now before.variables.now before.types.now
+    after.bindings.now after.buffers.now after.variables.now after.types.now r

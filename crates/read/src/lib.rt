@@ -3,15 +3,18 @@
 
 ghost use Rattle.std.specs.Prelude.{◌≡◌};
 ghost use Rattle.read.specs.Header.{Headed, rd11_check};
-ghost use Rattle.read.specs.Parsed.{read_into, ParsedInto};
-ghost use Rattle.read.specs.Filled.{Filled};
+ghost use Rattle.tables.specs.Lent.{SameTables};
+ghost use Rattle.read.specs.Parsed.{read_in, TablesParsed};
+ghost use Rattle.read.specs.Filled.{IsRoom, Filled, SameLengths};
 
 use read_spec::Counts;
+use read_types::{Chunk, Filling, Records};
 use reflection::{
     BINDING_ROOM, BINDING_WORDS, BUFFER_ROOM, BUFFER_WORDS, CHUNK_LIMIT, HEADER_SIZE,
-    RD11_HEADER_SIZE, Rd11Header, Refusal, ResourceDef, TYPE_LEVELS, TYPE_ROOM, TYPE_WORDS, Text,
-    VARIABLE_ROOM, VARIABLE_WORDS, WIDE_BINDING_STRIDE,
+    RD11_HEADER_SIZE, Rd11Header, Rd11Words, Refusal, ResourceDef, TYPE_LEVELS, TYPE_ROOM,
+    TYPE_WORDS, Text, VARIABLE_ROOM, VARIABLE_WORDS, WIDE_BINDING_STRIDE,
 };
+use tables::Tables;
 
 // What the chunk's header says: the creator, whether the chunk is of major 5, and whether its bindings have space and id.
 #[derive(Clone, Copy)]
@@ -29,15 +32,16 @@ fn check_rd11(chunk: &[u8]) -> Result<(), Refusal>
     if chunk.len() < RD11_HEADER_SIZE as usize {
         return Err(Refusal::Rd11Missing);
     }
-    if reflection::rd11_allowed(
-        words::word_at(chunk, 28),
-        words::word_at(chunk, 32),
-        words::word_at(chunk, 36),
-        words::word_at(chunk, 40),
-        words::word_at(chunk, 44),
-        words::word_at(chunk, 48),
-        words::word_at(chunk, 52),
-    ) {
+    let rd11 = Rd11Words {
+        identifier: words::word_at(chunk, 28),
+        header_size: words::word_at(chunk, 32),
+        buffer_stride: words::word_at(chunk, 36),
+        binding_stride: words::word_at(chunk, 40),
+        variable_stride: words::word_at(chunk, 44),
+        type_stride: words::word_at(chunk, 48),
+        member_stride: words::word_at(chunk, 52),
+    };
+    if rd11.allowed() {
         Ok(())
     } else {
         Err(Refusal::BadRd11)
@@ -60,8 +64,7 @@ fn read_header(chunk: &[u8]) -> Result<ChunkHeader, Refusal>
         _ => return Err(Refusal::BadVersion),
     };
     let offset = words::word_at(chunk, 24);
-    let found = text::cstring_at(chunk, offset as usize).ok_or(Refusal::BadCreator)?;
-    let creator = reflection::in_chunk(found.place as u32, found.length as u32);
+    let creator = read_types::text_at(chunk, offset, Refusal::BadCreator)?;
     if sm5 {
         check_rd11(chunk)?;
     }
@@ -72,65 +75,62 @@ fn read_header(chunk: &[u8]) -> Result<ChunkHeader, Refusal>
     })
 }
 
-// Reads a chunk: the records stand at each table's start, and after them what stood there before.
-fn read_tables(
-    chunk: &[u8],
-    bindings: &mut [u32],
-    buffers: &mut [u32],
-    variables: &mut [u32],
-    types: &mut [u32],
-) -> Result<ResourceDef, Refusal>
-    ensures { Filled
-        (read_into chunk.now bindings.old buffers.old variables.old types.old)
-        bindings.new buffers.new variables.new types.new result }
+// How many records each table can take.
+fn capacity_of(tables: &Tables<'_>) -> Counts
+    ensures { IsRoom tables.now.bindings.now tables.now.buffers.now tables.now.variables.now tables.now.types.now result }
 {
-    let header = read_header(chunk)?;
-    let capacity = Counts {
-        bindings: (bindings.len() / BINDING_WORDS).min(BINDING_ROOM),
-        buffers: (buffers.len() / BUFFER_WORDS).min(BUFFER_ROOM),
-        variables: (variables.len() / VARIABLE_WORDS).min(VARIABLE_ROOM),
-        types: (types.len() / TYPE_WORDS).min(TYPE_ROOM),
-    };
-    let none = Counts {
-        bindings: 0,
-        buffers: 0,
-        variables: 0,
-        types: 0,
-    };
-    let binding_count = words::word_at(chunk, 8);
-    let first_binding = words::word_at(chunk, 12);
-    let walked = read_tables::walk_bindings(
-        chunk,
-        first_binding,
-        binding_count,
-        header.wide,
+    Counts {
+        bindings: (tables.bindings.len() / BINDING_WORDS).min(BINDING_ROOM),
+        buffers: (tables.buffers.len() / BUFFER_WORDS).min(BUFFER_ROOM),
+        variables: (tables.variables.len() / VARIABLE_WORDS).min(VARIABLE_ROOM),
+        types: (tables.types.len() / TYPE_WORDS).min(TYPE_ROOM),
+    }
+}
+
+// Reads a chunk: the records stand at each table's start, and after them what stood there before.
+fn read_tables(bytes: &[u8], tables: &mut Tables<'_>) -> Result<ResourceDef, Refusal>
+    ensures filled { Filled (read_in bytes.now tables.old)
+        tables.new.bindings.now tables.new.buffers.now tables.new.variables.now tables.new.types.now result }
+    ensures same { SameTables tables.old tables.new }
+    ensures long { SameLengths tables.old tables.new }
+{
+    let header = read_header(bytes)?;
+    let capacity = capacity_of(tables);
+    let mut filling = Filling {
+        bindings: &mut *tables.bindings,
+        buffers: &mut *tables.buffers,
+        variables: &mut *tables.variables,
+        types: &mut *tables.types,
         capacity,
-        bindings,
-        none,
-    )?;
-    let buffer_count = words::word_at(chunk, 0);
-    let first_buffer = words::word_at(chunk, 4);
-    let mut path = [0u32; TYPE_LEVELS];
-    let counts = read_tables::walk_buffers(
+        counts: Counts::default(),
+        path: [0; TYPE_LEVELS],
+    };
+    let chunk = Chunk {
+        bytes,
+        sm5: header.sm5,
+        wide: header.wide,
+    };
+    let bindings = Records {
         chunk,
-        first_buffer,
-        buffer_count,
-        header.sm5,
-        capacity,
-        buffers,
-        variables,
-        types,
-        &mut path,
-        walked,
-    )?;
+        first: words::word_at(bytes, 12),
+        count: words::word_at(bytes, 8),
+    };
+    read_tables::walk_bindings(&mut filling, bindings)?;
+    let buffers = Records {
+        chunk,
+        first: words::word_at(bytes, 4),
+        count: words::word_at(bytes, 0),
+    };
+    read_tables::walk_buffers(&mut filling, buffers)?;
+    let counts = filling.counts;
     Ok(ResourceDef {
-        target_version: words::word_at(chunk, 16),
-        compile_flags: words::word_at(chunk, 20),
+        target_version: words::word_at(bytes, 16),
+        compile_flags: words::word_at(bytes, 20),
         creator: header.creator,
         rd11: Rd11Header {
-            identifier: words::word_if(chunk, header.sm5, 28),
-            resource_binding_stride: words::word_if(chunk, header.sm5, 40),
-            interface_slot_count: words::word_if(chunk, header.sm5, 56),
+            identifier: words::word_if(bytes, header.sm5, 28),
+            resource_binding_stride: words::word_if(bytes, header.sm5, 40),
+            interface_slot_count: words::word_if(bytes, header.sm5, 56),
         },
         binding_count: counts.bindings as u32,
         buffer_count: counts.buffers as u32,
@@ -140,31 +140,17 @@ fn read_tables(
 }
 
 // Reads an RDEF chunk: the header by value, the records into four lent tables, zeros after them. A refusal leaves zeros.
-pub fn parse_rdef(
-    chunk: &[u8],
-    bindings: &mut [u32],
-    buffers: &mut [u32],
-    variables: &mut [u32],
-    types: &mut [u32],
-) -> Result<ResourceDef, Refusal>
-    ensures { ParsedInto
-        (read_into chunk.now bindings.old buffers.old variables.old types.old)
-        bindings.old buffers.old variables.old types.old
-        bindings.new buffers.new variables.new types.new result }
+pub fn parse_rdef(chunk: &[u8], tables: &mut Tables<'_>) -> Result<ResourceDef, Refusal>
+    ensures parsed { TablesParsed (read_in chunk.now tables.old) tables.old tables.new result }
+    ensures same { SameTables tables.old tables.new }
 {
-    match read_tables(chunk, bindings, buffers, variables, types) {
+    match read_tables(chunk, tables) {
         Err(refusal) => {
-            bindings.fill(0);
-            buffers.fill(0);
-            variables.fill(0);
-            types.fill(0);
+            tables.clear();
             Err(refusal)
         }
         Ok(def) => {
-            words::clear_from(bindings, def.binding_count as usize * BINDING_WORDS);
-            words::clear_from(buffers, def.buffer_count as usize * BUFFER_WORDS);
-            words::clear_from(variables, def.variable_count as usize * VARIABLE_WORDS);
-            words::clear_from(types, def.type_count as usize * TYPE_WORDS);
+            tables.clear_after(def);
             Ok(def)
         }
     }

@@ -3,7 +3,7 @@
 #![tactic(auto)]
 
 // A number of records for each table: how many it has, or how many it can take.
-#[derive(Clone, Copy)]
+#[derive(Clone, Copy, Default)]
 pub struct Counts {
     pub bindings: usize,
     pub buffers: usize,

@@ -2,7 +2,7 @@
 -- bindings, variables and buffers: each way out of a loop, and each turn, follows from what reading one record appends.
 use Rattle.reflection.specs.declared.refusal.Refusal.{Refusal}
 use Rattle.std.specs.Prelude.{Ok, Err}
-use mathlib.Core.Path.{◌≡◌, sym, ap, ◌∙◌}
+use mathlib.Core.Path.{◌≡◌, sym, ◌∙◌}
 use Prim.Native.Nat.{ℕ, ◌+◌, ◌-◌, ◌≤◌, ◌<◌}
 use Rattle.read_spec.specs.declared.Counts.{Counts}
 use Rattle.read_spec.specs.Step.{ReadStep}
@@ -11,26 +11,16 @@ use Rattle.read_types.specs.Walked.{room_left, AllGrew, Walked}
 use Rattle.read_tables.proofs.Many.{many_none, many_stopped, many_further}
 
 -- The loop's invariant: from n records the tables came to `next`, and `left` are left to read, from `at` on. `before` and `now` say what so many records of the
--- tables hold, at entry and now; `lengths` is that the tables are as long as at entry.
+-- tables hold, at entry and now.
 pub record Going {A S : Type 0} (append : A → S → S) (read : ℕ → ReadStep A) (stride first count : ℕ) (capacity most n : Counts)
-    (before now : Counts → S) (lengths : Type 0) (next : Counts) (at left : ℕ) : Type 0 where
+    (before now : Counts → S) (next : Counts) (at left : ℕ) : Type 0 where
   pub same : many_progress append read stride count first (before n) (room_left capacity n)
       ≡ many_progress append read stride left at (now next) (room_left capacity next)
   pub grew : AllGrew most n next
-  pub long : lengths
-
--- Nothing is read yet.
-pub starts : {A S : Type 0} {append : A → S → S} {read : ℕ → ReadStep A} {stride first count left : ℕ} {capacity most n : Counts} {before : Counts → S}
-    {lengths : Type 0} → left ≡ count → AllGrew most n n → lengths → Going append read stride first count capacity most n before before lengths n first left
-starts {append = append} {read} {stride} {first} {capacity = capacity} {n = n} {before = before} all grew long = record {
-  same = ap (λ (k : ℕ). many_progress append read stride k first (before n) (room_left capacity n)) (sym all);
-  grew = grew;
-  long = long;
-}
 
 module _ {A S : Type 0} {append : A → S → S} {read : ℕ → ReadStep A} {stride first count : ℕ} {capacity most n : Counts} {before now : Counts → S}
-    {lengths : Type 0} {next : Counts} {at left : ℕ}
-    (so_far : Going append read stride first count capacity most n before now lengths next at left) where
+    {next : Counts} {at left : ℕ}
+    (so_far : Going append read stride first count capacity most n before now next at left) where
   pub ends : left ≤ 0 → Walked (many_progress append read stride count first) capacity most n before now (Ok next)
   ends none = record { outcome = so_far.same ∙ many_none append read stride left at (now next) (room_left capacity next) none; grew = so_far.grew }
 
@@ -42,14 +32,13 @@ module _ {A S : Type 0} {append : A → S → S} {read : ℕ → ReadStep A} {st
         → Walked (many_progress append read stride count first) capacity most n before after (Err e)
     stops refusal = record { outcome = so_far.same ∙ many_stopped append read stride left at (now next) (room_left capacity next) some refusal; grew = tt }
 
-    pub goes_on : {now₁ : Counts → S} {lengths₁ : Type 0} {next₁ : Counts} {step left₁ : ℕ} → one ≡ reached (now₁ next₁) (room_left capacity next₁)
-        → AllGrew most n next₁ → lengths₁ → step ≡ stride → left₁ ≡ left - 1
-        → Going append read stride first count capacity most n before now₁ lengths₁ next₁ (at + step) left₁
-    goes_on {now₁} {lengths₁} {next₁} further grew long is-stride one_less = record {
+    pub goes_on : {now₁ : Counts → S} {next₁ : Counts} {step left₁ : ℕ} → one ≡ reached (now₁ next₁) (room_left capacity next₁)
+        → AllGrew most n next₁ → step ≡ stride → left₁ ≡ left - 1
+        → Going append read stride first count capacity most n before now₁ next₁ (at + step) left₁
+    goes_on {now₁} {next₁} further grew is-stride one_less = record {
       same =
           so_far.same
           ∙ many_further append read stride left at (now next) (room_left capacity next) some further
           ∙ (λ i. many_progress append read stride (sym one_less i) (at + sym is-stride i) (now₁ next₁) (room_left capacity next₁));
       grew = grew;
-      long = long;
     }

@@ -24,8 +24,8 @@ use Rattle.read_spec.specs.Step.{Room, return}
 use Rattle.read_spec.specs.Read.{read_binding, binding_stride, binding_from_chunk}
 use Rattle.read_spec.proofs.Steps.{check_holds, check_fails, text_found, text_bad}
 use Rattle.read_types.specs.Progress.{Progress, stopped, reached, progress}
-use Rattle.read_types.specs.Walked.{room_left}
-use Rattle.read_tables.specs.Bindings.{append_binding, code_check, bindings_in, ReadyBindings}
+use Rattle.read_types.specs.Walked.{HasRoom, room_left}
+use Rattle.read_tables.specs.Bindings.{append_binding, code_check, bindings_in}
 use Rattle.read_tables.proofs.Put.{record_put}
 use Rattle.read_tables.proofs.Taking.{with_binding, no_binding, one_binding_lem}
 use Rattle.read_tables.proofs.Codes.{codes_hold, codes_fail}
@@ -64,8 +64,8 @@ module _ (s : List ℕ) (wide : Bool) (at : ℕ) (capacity n : Counts) (w : List
             ap appended (one_binding_lem capacity n _ free ∙ check_holds _ _ _ _ fits ∙ codes_hold _ _ _ _ none ∙ text_found _ _ _ _ place k name)
 
 -- What was read stands in the table, once it is written.
-module _ {s : List ℕ} {capacity n₀ : Counts} {bindings₀ : List ℕ} (ready : ReadyBindings s capacity n₀ bindings₀) (wide : Bool) (at : ℕ) (n : Counts)
-    (bindings : List ℕ) (long : length bindings ≡ length bindings₀) (free : n.bindings < capacity.bindings)
+module _ (s : List ℕ) (wide : Bool) (at : ℕ) (capacity n : Counts) (bindings : List ℕ)
+    (room : HasRoom binding_width capacity.bindings n.bindings bindings) (free : n.bindings < capacity.bindings)
     (fits : inside (length s) at (binding_stride wide) ≡ true)
     (none : code_check s at ≡ Ok tt) where
   pub binding_written : {place k : ℕ} → cstring_at s (word_at s at) ≡ Some (span place k) → {name : Text} → name ≡ in_chunk place k
@@ -80,4 +80,4 @@ module _ {s : List ℕ} {capacity n₀ : Counts} {bindings₀ : List ℕ} (ready
       is ∙ ap (λ (x : Text). binding_record (binding_from_chunk s wide at x)) is_name in
       binding_read s wide at capacity n (bindings_in bindings n) free fits none place k found
       ∙ ap (λ (x : List ℕ). reached x (room_left capacity (with_binding n)))
-      (sym (record_put n.bindings bindings (words (in_chunk place k)) ready.bindings_fit long free put (ap binding_words_in_table is-record) refl))
+      (sym (record_put n.bindings bindings (words (in_chunk place k)) room free put (ap binding_words_in_table is-record) refl))

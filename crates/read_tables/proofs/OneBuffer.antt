@@ -27,9 +27,9 @@ use Rattle.read_spec.specs.Step.{Room, and_then, ◌>>=◌, return, text_or, Wal
 use Rattle.read_spec.specs.Read.{read_many, read_variable, read_buffer, variable_stride, buffer_from_chunk}
 use Rattle.read_spec.proofs.Steps.{check_holds, check_fails, bind_is, text_found, text_bad, Gives, many_length}
 use Rattle.read_types.specs.Progress.{Progress, stopped, reached, progress, onward, append_all}
-use Rattle.read_types.specs.Walked.{room_left, answered, Walked}
+use Rattle.read_types.specs.Walked.{HasRoom, room_left, answered, Walked}
 use Rattle.read_tables.specs.Variables.{append_variable, variables_progress, variables_in, up_to_variables}
-use Rattle.read_tables.specs.Buffers.{TableWords, append_buffer, buffer_record_in_chunk, buffers_in, ReadyBuffers}
+use Rattle.read_tables.specs.Buffers.{TableWords, append_buffer, buffer_record_in_chunk, buffers_in}
 use Rattle.read_tables.proofs.Put.{record_put}
 use Rattle.read_tables.proofs.Taking.{with_buffer, no_buffer, one_buffer_lem}
 
@@ -123,17 +123,17 @@ module _ {s : List ℕ} {at : ℕ} {capacity n : Counts} {many start : ℕ} (f :
     pub buffer_named_badly : cstring_at s (word_at s at) ≡ None → buffer ≡ stopped BadName
     buffer_named_badly bad = filled None bad (Ok m) walk
 
-    pub buffer_filled : {n₀ : Counts} {buffers₀ variables₀ types₀ path₀ : List ℕ} → ReadyBuffers s capacity n₀ buffers₀ variables₀ types₀ path₀
-        → length buffers ≡ length buffers₀ → {place k : ℕ} → cstring_at s (word_at s at) ≡ Some (span place k) → {name : Text} → name ≡ in_chunk place k
+    pub buffer_filled : HasRoom buffer_width capacity.buffers n.buffers buffers
+        → {place k : ℕ} → cstring_at s (word_at s at) ≡ Some (span place k) → {name : Text} → name ≡ in_chunk place k
         → {written : BufferRecord} → written ≡ buffer_record_in_chunk s at name
         → {buffers₁ : List ℕ} → buffers₁ ≡ put_record buffer_width buffers n.buffers (buffer_words_in_table written)
         → buffer ≡ reached (buffers_in buffers₁ variables₁ types₁ m) (room_left capacity m)
     unfolding buffer_words_in_table
-    buffer_filled ready long {place} {k} found is_name {written} is {buffers₁} put =
+    buffer_filled room {place} {k} found is_name {written} is {buffers₁} put =
         let words : List ℕ = buffer_words_in_table (buffer_record_in_chunk s at (in_chunk place k)) in
         let counted : n.buffers + 1 ≡ m.buffers = omega (arith, walk.grew.buffers.low, walk.grew.buffers.high) in
         let is-record : written ≡ buffer_record_in_chunk s at (in_chunk place k) = is ∙ ap (buffer_record_in_chunk s at) is_name in
         filled (Some (span place k)) found (Ok m) walk
         ∙ ap (λ (x : List ℕ). reached (x, variables_in variables₁ types₁ m) (room_left capacity m))
-        (sym (record_put n.buffers buffers words ready.buffers_fit long f.free put (ap buffer_words_in_table is-record) refl)
+        (sym (record_put n.buffers buffers words room f.free put (ap buffer_words_in_table is-record) refl)
         ∙ ap (λ (x : ℕ). take (x * buffer_width) buffers₁) counted)

@@ -25,9 +25,9 @@ use Rattle.read_spec.specs.Step.{Room, and_then, return, Walk}
 use Rattle.read_spec.specs.Read.{read_variable, read_type, variable_stride, variable_from_chunk, default_at}
 use Rattle.read_spec.proofs.Steps.{check_holds, check_fails, bind_is, text_found, text_bad}
 use Rattle.read_types.specs.Progress.{Progress, stopped, reached, progress, onward}
-use Rattle.read_types.specs.Walked.{room_left, answered}
-use Rattle.read_types.specs.Walk.{append_type, type_progress, nodes_in, WalkedType}
-use Rattle.read_tables.specs.Variables.{append_variable, variable_record_in_chunk, variables_in, ReadyVariables}
+use Rattle.read_types.specs.Walked.{HasRoom, room_left, answered, Walked}
+use Rattle.read_types.specs.Walk.{append_type, type_progress, nodes_in, up_to_types}
+use Rattle.read_tables.specs.Variables.{append_variable, variable_record_in_chunk, variables_in}
 use Rattle.read_tables.proofs.Put.{record_put}
 use Rattle.read_tables.proofs.Taking.{with_variable, no_variable, one_variable}
 
@@ -83,8 +83,8 @@ module _ (s : List ℕ) (sm5 : Bool) (at : ℕ) (capacity n : Counts) (w : List 
             typed (Ok z) = refl
             typed (Err e) = refl
 
--- The variable passed its tests, its record is written, and its type lies at `below`, which no member leads to.
-pub record VariableWritten (s : List ℕ) (sm5 : Bool) (at : ℕ) (capacity n : Counts) (variables variables₁ : List ℕ) (below : ℕ) (root : Text) : Type 0 where
+-- The variable passed its tests, its record is written, and its type lies at `below`.
+pub record VariableWritten (s : List ℕ) (sm5 : Bool) (at : ℕ) (capacity n : Counts) (variables variables₁ : List ℕ) (below : ℕ) : Type 0 where
   pub free : n.variables < capacity.variables
   pub fits : inside (length s) at (variable_stride sm5) ≡ true
   pub dplace : ℕ
@@ -96,27 +96,28 @@ pub record VariableWritten (s : List ℕ) (sm5 : Bool) (at : ℕ) (capacity n : 
   pub taken : take ((n.variables + 1) * variable_width) variables₁
       ≡ take (n.variables * variable_width) variables ++ variable_words_in_table (variable_record_in_chunk s sm5 at (in_chunk place k) (in_chunk dplace dlength))
   pub is_below : below ≡ word_at s (at + 16)
-  pub is_root : root ≡ in_chunk 0 0
 
 -- A variable's record, written after those that the table has.
-pub variable_put : {s : List ℕ} {capacity n₀ : Counts} {variables₀ types₀ path₀ : List ℕ} → ReadyVariables s capacity n₀ variables₀ types₀ path₀
-    → (sm5 : Bool) (at : ℕ) (n : Counts) (variables : List ℕ) → length variables ≡ length variables₀ → n.variables < capacity.variables
+pub variable_put : (s : List ℕ) (sm5 : Bool) (at : ℕ) (capacity n : Counts) (variables : List ℕ)
+    → HasRoom variable_width capacity.variables n.variables variables → n.variables < capacity.variables
     → {place k dplace dlength : ℕ} {name default : Text} → name ≡ in_chunk place k → default ≡ in_chunk dplace dlength
     → {variable : VariableRecord} → variable ≡ variable_record_in_chunk s sm5 at name default
     → {variables₁ : List ℕ} → variables₁ ≡ put_record variable_width variables n.variables (variable_words_in_table variable)
     → take ((n.variables + 1) * variable_width) variables₁
     ≡ take (n.variables * variable_width) variables ++ variable_words_in_table (variable_record_in_chunk s sm5 at (in_chunk place k) (in_chunk dplace dlength))
 unfolding variable_words_in_table
-variable_put {s} ready sm5 at n variables long free {place} {k} {dplace} {dlength} is_name is-default {variable} is put =
+variable_put s sm5 at capacity n variables room free {place} {k} {dplace} {dlength} is_name is-default {variable} is put =
     let words : Text → Text → List ℕ = λ (x : Text) (y : Text). variable_words_in_table (variable_record_in_chunk s sm5 at x y) in
-    record_put n.variables variables (words (in_chunk place k) (in_chunk dplace dlength)) ready.variables_fit long free put
+    record_put n.variables variables (words (in_chunk place k) (in_chunk dplace dlength)) room free put
     (ap variable_words_in_table is ∙ (λ i. words (is_name i) (is-default i))) refl
 
 -- Its type was walked: what that walk left is what reading the variable appends.
-module _ {s : List ℕ} {sm5 : Bool} {at : ℕ} {capacity n : Counts} {variables variables₁ : List ℕ} {below : ℕ} {root : Text}
-    (v : VariableWritten s sm5 at capacity n variables variables₁ below root) (types types₁ path path₁ : List ℕ) where
+module _ {s : List ℕ} {sm5 : Bool} {at : ℕ} {capacity n : Counts} {variables variables₁ : List ℕ} {below : ℕ}
+    (v : VariableWritten s sm5 at capacity n variables variables₁ below) (types types₁ : List ℕ) where
   abbrev walked : Walk → Type 0
-  walked r = WalkedType (type_progress s sm5 type_levels [] below root 0) type_levels capacity (with_variable n) types types₁ path path₁ r
+  walked r =
+      Walked (type_progress s sm5 type_levels [] below (in_chunk 0 0) 0) capacity (up_to_types capacity (with_variable n)) (with_variable n)
+      (nodes_in types) (nodes_in types₁) r
 
   abbrev variable : Progress (List ℕ × List ℕ)
   variable = progress append_variable (read_variable s sm5 at (room_left capacity n)) (variables_in variables types n)
@@ -125,13 +126,13 @@ module _ {s : List ℕ} {sm5 : Bool} {at : ℕ} {capacity n : Counts} {variables
   typed r type =
       let left : Room = room_left capacity (with_variable n) in
       variable_read s sm5 at capacity n (variables_in variables types n) v.free v.fits v.dplace v.dlength v.default v.place v.k v.found
-      ∙ (λ i. recorded (sym v.taken i) (type_progress s sm5 type_levels [] (sym v.is_below i) (sym v.is_root i) 0 (nodes_in types n) left))
-      ∙ ap (recorded (take ((n.variables + 1) * variable_width) variables₁)) type.walked.outcome
+      ∙ (λ i. recorded (sym v.taken i) (type_progress s sm5 type_levels [] (sym v.is_below i) (in_chunk 0 0) 0 (nodes_in types n) left))
+      ∙ ap (recorded (take ((n.variables + 1) * variable_width) variables₁)) type.outcome
 
   pub variable_refused : {e : Refusal} → walked (Err e) → variable ≡ stopped e
   variable_refused {e} type = typed (Err e) type
 
   pub variable_filled : {m : Counts} → walked (Ok m) → variable ≡ reached (variables_in variables₁ types₁ m) (room_left capacity m)
   variable_filled {m} type =
-      let counted : n.variables + 1 ≡ m.variables = omega (arith, type.walked.grew.variables.low, type.walked.grew.variables.high) in
+      let counted : n.variables + 1 ≡ m.variables = omega (arith, type.grew.variables.low, type.grew.variables.high) in
       typed (Ok m) type ∙ ap (λ (k : ℕ). reached (take (k * variable_width) variables₁, nodes_in types₁ m) (room_left capacity m)) counted

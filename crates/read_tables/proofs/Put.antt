@@ -1,16 +1,15 @@
 -- A record that is put after the n that a table has: the table then has it, too. One law over the width serves the tables.
-use mathlib.Core.Path.{◌≡◌, sym, ap, subst, ◌∙◌}
+use mathlib.Core.Path.{◌≡◌, ap, ◌∙◌}
 use mathlib.Core.List.{List, ◌++◌}
-use Prim.Native.Nat.{ℕ, ◌+◌, ◌*◌, ◌/◌, ◌≤◌, ◌<◌}
+use Prim.Native.Nat.{ℕ, ◌+◌, ◌*◌, ◌<◌}
 use native.Mathlib.Omega.{arith}
 use lib.ListN.{length, take}
 use Rattle.tables.specs.Records.{put_record}
 use Rattle.read_types.specs.Walked.{HasRoom}
 use Rattle.read_types.proofs.Table.{record_appended}
 
-pub record_put : (n : ℕ) (table words : List ℕ) {width capacity n₀ : ℕ} {table₀ table₁ put : List ℕ} → HasRoom width capacity n₀ table₀
-    → length table ≡ length table₀ → n < capacity → table₁ ≡ put_record width table n put → put ≡ words → length words ≡ width
+pub record_put : (n : ℕ) (table words : List ℕ) {width capacity : ℕ} {table₁ put : List ℕ} → HasRoom width capacity n table
+    → n < capacity → table₁ ≡ put_record width table n put → put ≡ words → length words ≡ width
     → take ((n + 1) * width) table₁ ≡ take (n * width) table ++ words
-record_put n table words {width} {capacity} room long free is-put is-words whole =
-    let fits : capacity ≤ length table / width = subst (λ (k : ℕ). capacity ≤ k / width) (sym long) room.fits in
-    ap (take ((n + 1) * width)) (is-put ∙ ap (put_record width table n) is-words) ∙ record_appended width table n words (omega (arith, fits)) whole
+record_put n table words {width} room free is-put is-words whole =
+    ap (take ((n + 1) * width)) (is-put ∙ ap (put_record width table n) is-words) ∙ record_appended width table n words (omega (arith, room.fits)) whole

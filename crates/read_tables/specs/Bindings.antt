@@ -1,13 +1,13 @@
 -- Vocabulary of internal contracts: no contract of an exported function and no demand cites it.
--- The walk of the bindings: what it is given, and what it leaves.
+-- The walk of the bindings: what it leaves.
 use Rattle.reflection.specs.Outcome.{Outcome}
 use Rattle.reflection.specs.declared.refusal.Refusal.TheVariants.{BadInputType, BadDimension, BadBindingFlags}
-use Rattle.std.specs.Prelude.{Bool, true, false, Ok, Err, List, ◌++◌, ℕ, ◌+◌, ◌*◌, ◌≤◌, length, take}
+use Rattle.std.specs.Prelude.{◌≡◌, Bool, true, false, Ok, Err, List, ◌++◌, ℕ, ◌+◌, ◌*◌, take}
 use Rattle.words.specs.Words.{word_at}
 use Rattle.codes.specs.Table.{known}
 use Rattle.codes.specs.Microsoft.{input_types, srv_dimensions}
 use Rattle.flags.specs.Flags.{binding_flags_allowed}
-use Rattle.reflection.specs.Limits.{chunk_limit, binding_width}
+use Rattle.reflection.specs.Limits.{binding_width}
 use Rattle.reflection.specs.declared.Text.{Text}
 use Rattle.reflection.specs.Reflection.{ResourceBinding}
 use Rattle.tables.specs.Records.{binding_words_in_table}
@@ -16,7 +16,8 @@ use Rattle.read_spec.specs.declared.Counts.{Counts}
 use Rattle.read_spec.specs.Step.{Room}
 use Rattle.read_spec.specs.Read.{read_binding, binding_stride}
 use Rattle.read_types.specs.Progress.{Progress, many_progress}
-use Rattle.read_types.specs.Walked.{HasRoom}
+use Rattle.read_types.specs.Filling.{SameFilling}
+use Rattle.read_types.specs.declared.filling.Filling.{Filling}
 
 -- A binding's record after the words w.
 unfoldable pub append_binding : ResourceBinding Text → List ℕ → List ℕ
@@ -45,7 +46,9 @@ bindings_in bindings n = take (n.bindings * binding_width) bindings
 abbrev pub up_to_bindings : Counts → Counts → Counts
 up_to_bindings capacity n = record { bindings = capacity.bindings; buffers = n.buffers; variables = n.variables; types = n.types }
 
--- What it is given: a chunk whose places fit a word, and room for bindings.
-pub record ReadyBindings (chunk : List ℕ) (capacity n : Counts) (bindings : List ℕ) : Type 0 where
-  pub chunk-fits : length chunk ≤ chunk_limit
-  pub bindings_fit : HasRoom binding_width capacity.bindings n.bindings bindings
+-- The bindings' table alone was written.
+pub record OnlyBindings (before after : Filling) : Type 0 where
+  pub same : SameFilling before after
+  pub buffers : after.buffers.now ≡ before.buffers.now
+  pub variables : after.variables.now ≡ before.variables.now
+  pub types : after.types.now ≡ before.types.now

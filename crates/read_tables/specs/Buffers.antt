@@ -1,6 +1,6 @@
 -- Vocabulary of internal contracts: no contract of an exported function and no demand cites it.
--- The walk of the buffers, each with its variables and their types: what it is given, and what it leaves.
-use Rattle.std.specs.Prelude.{Bool, List, ◌++◌, ℕ, ◌+◌, ◌*◌, take}
+-- The walk of the buffers, each with its variables and their types: what it leaves.
+use Rattle.std.specs.Prelude.{◌≡◌, Bool, List, ◌++◌, ℕ, ◌+◌, ◌*◌, take}
 use Rattle.words.specs.Words.{word_at}
 use Rattle.reflection.specs.Limits.{buffer_width}
 use Rattle.reflection.specs.Strides.{buffer_stride}
@@ -13,8 +13,9 @@ use Rattle.read_spec.specs.declared.Counts.{Counts}
 use Rattle.read_spec.specs.Step.{Room}
 use Rattle.read_spec.specs.Read.{read_buffer}
 use Rattle.read_types.specs.Progress.{Progress, append_all, many_progress}
-use Rattle.read_types.specs.Walked.{HasRoom}
-use Rattle.read_tables.specs.Variables.{append_variable, variables_in, ReadyVariables}
+use Rattle.read_types.specs.Filling.{SameFilling}
+use Rattle.read_types.specs.declared.filling.Filling.{Filling}
+use Rattle.read_tables.specs.Variables.{append_variable, variables_in}
 
 -- The buffers' words, the variables' and the nodes'.
 abbrev pub TableWords : Type 0
@@ -46,7 +47,7 @@ buffers_in buffers variables types n = (take (n.buffers * buffer_width) buffers,
 abbrev pub up_to_buffers : Counts → Counts → Counts
 up_to_buffers capacity n = record { bindings = n.bindings; buffers = capacity.buffers; variables = capacity.variables; types = capacity.types }
 
--- What it is given: what the walk of the variables is given, and room for buffers.
-pub record ReadyBuffers (chunk : List ℕ) (capacity n : Counts) (buffers variables types path : List ℕ) : Type 0 where
-  pub variables_ready : ReadyVariables chunk capacity n variables types path
-  pub buffers_fit : HasRoom buffer_width capacity.buffers n.buffers buffers
+-- All tables but the bindings' were written.
+pub record KeptBindings (before after : Filling) : Type 0 where
+  pub same : SameFilling before after
+  pub bindings : after.bindings.now ≡ before.bindings.now

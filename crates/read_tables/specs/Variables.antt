@@ -1,6 +1,6 @@
 -- Vocabulary of internal contracts: no contract of an exported function and no demand cites it.
--- The walk of a buffer's variables, each with the nodes of its type: what it is given, and what it leaves.
-use Rattle.std.specs.Prelude.{Bool, List, ◌++◌, ℕ, ◌+◌, ◌*◌, take}
+-- The walk of a buffer's variables, each with the nodes of its type: what it leaves.
+use Rattle.std.specs.Prelude.{◌≡◌, Bool, List, ◌++◌, ℕ, ◌+◌, ◌*◌, take}
 use Rattle.words.specs.Words.{word_at}
 use Rattle.reflection.specs.Limits.{variable_width}
 use Rattle.reflection.specs.declared.Text.{Text}
@@ -14,8 +14,9 @@ use Rattle.read_spec.specs.Step.{Room}
 use Rattle.read_spec.specs.Read.{read_variable, variable_stride}
 use Rattle.words.specs.Words.{word_if}
 use Rattle.read_types.specs.Progress.{Progress, many_progress}
-use Rattle.read_types.specs.Walked.{HasRoom}
-use Rattle.read_types.specs.Walk.{append_type, nodes_in, ReadyType}
+use Rattle.read_types.specs.Filling.{SameFilling}
+use Rattle.read_types.specs.declared.filling.Filling.{Filling}
+use Rattle.read_types.specs.Walk.{append_type, nodes_in}
 
 -- A variable's record after the variables' words, and the nodes of its type after the nodes' words.
 unfoldable pub append_variable : CBufferVariable Text Text → List ℕ × List ℕ → List ℕ × List ℕ
@@ -47,7 +48,8 @@ variables_in variables types n = (take (n.variables * variable_width) variables,
 abbrev pub up_to_variables : Counts → Counts → Counts
 up_to_variables capacity n = record { bindings = n.bindings; buffers = n.buffers; variables = capacity.variables; types = capacity.types }
 
--- What it is given: what the walk of a type is given, and room for variables.
-pub record ReadyVariables (chunk : List ℕ) (capacity n : Counts) (variables types path : List ℕ) : Type 0 where
-  pub type_ready : ReadyType chunk capacity n types path
-  pub variables_fit : HasRoom variable_width capacity.variables n.variables variables
+-- The variables' and the types' tables alone were written.
+pub record OnlyVariables (before after : Filling) : Type 0 where
+  pub same : SameFilling before after
+  pub bindings : after.bindings.now ≡ before.bindings.now
+  pub buffers : after.buffers.now ≡ before.buffers.now

@@ -1,19 +1,19 @@
 // The walk of the bindings.
-ghost use Rattle.std.specs.Prelude.{◌≡◌, true, ◌≤◌};
-ghost use Rattle.reflection.specs.Limits.{chunk_limit};
+ghost use Rattle.std.specs.Prelude.{◌≡◌};
 ghost use Rattle.tables.specs.Tables.{binding_record};
 ghost use Rattle.read_spec.specs.Read.{binding_stride, binding_from_chunk};
 ghost use Rattle.read_types.specs.Walked.{Walked};
-ghost use Rattle.read_tables.specs.Bindings.{code_check, bindings_progress, bindings_in, up_to_bindings, ReadyBindings};
+ghost use Rattle.read_types.specs.Filling.{counted};
+ghost use Rattle.read_tables.specs.Bindings.{code_check, bindings_progress, bindings_in, up_to_bindings, OnlyBindings};
 
 use codes::{ResourceDimension, ResourceInputType};
 use flags::BindingFlags;
-use read_spec::Counts;
-use reflection::{BINDING_STRIDE, Refusal, ResourceBinding, Text, WIDE_BINDING_STRIDE, in_chunk};
+use read_types::{Filling, Record, Records};
+use reflection::{BINDING_STRIDE, Refusal, ResourceBinding, Text, WIDE_BINDING_STRIDE};
 
 // How many bytes a binding takes.
 fn binding_stride(wide: bool) -> usize
-    ensures { (result ≡ binding_stride wide) × (result ≤ binding_stride true) }
+    ensures { result ≡ binding_stride wide }
 {
     if wide {
         WIDE_BINDING_STRIDE as usize
@@ -22,78 +22,61 @@ fn binding_stride(wide: bool) -> usize
     }
 }
 
-// Whether the codes of the binding at `at` are in Microsoft's tables.
-fn check_codes(chunk: &[u8], at: usize) -> Result<(), Refusal>
-    requires { at ≤ chunk_limit }
-    ensures { result ≡ code_check chunk.now at }
+// Whether a binding's codes are in Microsoft's tables.
+fn check_codes(binding: Record<'_>) -> Result<(), Refusal>
+    ensures { result ≡ code_check binding.entry.chunk.bytes.now binding.entry.at }
 {
-    ResourceInputType::try_from(words::word_at(chunk, at + 4)).map_err(|_| Refusal::BadInputType)?;
-    ResourceDimension::try_from(words::word_at(chunk, at + 12)).map_err(|_| Refusal::BadDimension)?;
-    if BindingFlags(words::word_at(chunk, at + 28)).allowed() {
+    ResourceInputType::try_from(binding.word(4)).map_err(|_| Refusal::BadInputType)?;
+    ResourceDimension::try_from(binding.word(12)).map_err(|_| Refusal::BadDimension)?;
+    if BindingFlags(binding.word(28)).allowed() {
         Ok(())
     } else {
         Err(Refusal::BadBindingFlags)
     }
 }
 
-// The binding at `at`, whose name is known.
+// The binding, whose name is known.
 #[tactic(auto, unfolding(tables::specs::Tables::binding_record, read_spec::specs::Read::binding_from_chunk))]
-fn binding_record(chunk: &[u8], at: usize, wide: bool, name: Text) -> ResourceBinding
-    requires { at ≤ chunk_limit }
-    ensures { result ≡ binding_record (binding_from_chunk chunk.now wide at name) }
+fn binding_record(binding: Record<'_>, name: Text) -> ResourceBinding
+    ensures { result ≡ binding_record (binding_from_chunk binding.entry.chunk.bytes.now binding.entry.chunk.wide binding.entry.at name) }
 {
+    let wide = binding.chunk.wide;
     ResourceBinding {
         name,
-        input_type: words::word_at(chunk, at + 4),
-        return_type: words::word_at(chunk, at + 8),
-        dimension: words::word_at(chunk, at + 12),
-        num_samples: words::word_at(chunk, at + 16),
-        bind_point: words::word_at(chunk, at + 20),
-        bind_count: words::word_at(chunk, at + 24),
-        flags: BindingFlags(words::word_at(chunk, at + 28)),
-        space: words::word_if(chunk, wide, at + 32),
-        id: words::word_if(chunk, wide, at + 36),
+        input_type: binding.word(4),
+        return_type: binding.word(8),
+        dimension: binding.word(12),
+        num_samples: binding.word(16),
+        bind_point: binding.word(20),
+        bind_count: binding.word(24),
+        flags: BindingFlags(binding.word(28)),
+        space: binding.word_if(wide, 32),
+        id: binding.word_if(wide, 36),
     }
 }
 
-// Walks `count` bindings, whose records begin at `first`: they follow those that there are.
+// Walks bindings: they follow those that there are.
 #[tactic(auto, using(words::proofs::Parts::inside_fits))]
-pub fn walk_bindings(
-    chunk: &[u8],
-    first: u32,
-    count: u32,
-    wide: bool,
-    capacity: Counts,
-    bindings: &mut [u32],
-    counts: Counts,
-) -> Result<Counts, Refusal>
-    requires { ReadyBindings chunk.now capacity counts bindings.old }
-    ensures { Walked (bindings_progress chunk.now wide count first)
-        capacity (up_to_bindings capacity counts) counts (bindings_in bindings.old) (bindings_in bindings.new) result }
+pub fn walk_bindings(filling: &mut Filling<'_>, bindings: Records<'_>) -> Result<(), Refusal>
+    ensures walked { Walked
+        (bindings_progress bindings.entry.chunk.bytes.now bindings.entry.chunk.wide bindings.entry.count bindings.entry.first)
+        filling.old.capacity (up_to_bindings filling.old.capacity filling.old.counts) filling.old.counts
+        (bindings_in filling.old.bindings.now) (bindings_in filling.new.bindings.now) (counted result filling.new.counts) }
+    ensures kept { OnlyBindings filling.old filling.new }
 {
-    let stride = binding_stride(wide);
-    let mut next = counts;
-    let mut at = first as usize;
-    for _ in 0..count {
-        let n = next.bindings;
-        if capacity.bindings <= n {
+    let stride = binding_stride(bindings.chunk.wide);
+    let mut at = bindings.first as usize;
+    for _ in 0..bindings.count {
+        let n = filling.counts.bindings;
+        if filling.capacity.bindings <= n {
             return Err(Refusal::NoRoom);
         }
-        if !words::inside(chunk.len(), at, stride) {
-            return Err(Refusal::RecordPastEnd);
-        }
-        check_codes(chunk, at)?;
-        let name = words::word_at(chunk, at);
-        let found = text::cstring_at(chunk, name as usize).ok_or(Refusal::BadName)?;
-        let binding = binding_record(
-            chunk,
-            at,
-            wide,
-            in_chunk(found.place as u32, found.length as u32),
-        );
-        tables::put_binding(bindings, n, binding);
-        next.bindings = n + 1;
+        let record = bindings.chunk.record(at, stride)?;
+        check_codes(record)?;
+        let name = record.name()?;
+        tables::put_binding(filling.bindings, n, binding_record(record, name));
+        filling.counts.bindings = n + 1;
         at += stride;
     }
-    Ok(next)
+    Ok(())
 }

@@ -1,68 +1,53 @@
 // The walk of the buffers, each with its variables and their types.
-ghost use Rattle.std.specs.Prelude.{◌≡◌, ◌≤◌};
-ghost use Rattle.reflection.specs.Limits.{chunk_limit};
+ghost use Rattle.std.specs.Prelude.{◌≡◌};
 ghost use Rattle.read_types.specs.Walked.{Walked};
-ghost use Rattle.read_tables.specs.Buffers.{buffer_record_in_chunk, buffers_progress, buffers_in, up_to_buffers, ReadyBuffers};
+ghost use Rattle.read_types.specs.Filling.{counted};
+ghost use Rattle.read_tables.specs.Buffers.{buffer_record_in_chunk, buffers_progress, buffers_in, up_to_buffers, KeptBindings};
 
 use crate::variables::walk_variables;
-use read_spec::Counts;
-use reflection::{BUFFER_STRIDE, CBufferDef, Refusal, Text, in_chunk};
+use read_types::{Filling, Record, Records};
+use reflection::{BUFFER_STRIDE, CBufferDef, Refusal, Text};
 
-// The buffer at `at`, whose name is known.
+// The buffer, whose name is known.
 #[tactic(auto, unfolding(crate::specs::Buffers::buffer_record_in_chunk))]
-fn buffer_record(chunk: &[u8], at: usize, name: Text) -> CBufferDef
-    requires { at ≤ chunk_limit }
-    ensures { result ≡ buffer_record_in_chunk chunk.now at name }
+fn buffer_record(buffer: Record<'_>, name: Text) -> CBufferDef
+    ensures { result ≡ buffer_record_in_chunk buffer.entry.chunk.bytes.now buffer.entry.at name }
 {
     CBufferDef {
         name,
-        variable_count: words::word_at(chunk, at + 4),
-        size: words::word_at(chunk, at + 12),
-        flags: words::word_at(chunk, at + 16),
-        cb_type: words::word_at(chunk, at + 20),
+        variable_count: buffer.word(4),
+        size: buffer.word(12),
+        flags: buffer.word(16),
+        cb_type: buffer.word(20),
     }
 }
 
-// Walks `count` buffers, whose records begin at `first`: they, their variables and the nodes of their types follow those that there are.
+// Walks buffers: they, their variables and the nodes of their types follow those that there are.
 #[tactic(auto, using(words::proofs::Parts::inside_fits))]
-pub fn walk_buffers(
-    chunk: &[u8],
-    first: u32,
-    count: u32,
-    sm5: bool,
-    capacity: Counts,
-    buffers: &mut [u32],
-    variables: &mut [u32],
-    types: &mut [u32],
-    path: &mut [u32],
-    counts: Counts,
-) -> Result<Counts, Refusal>
-    requires { ReadyBuffers chunk.now capacity counts buffers.old variables.old types.old path.old }
-    ensures { Walked (buffers_progress chunk.now sm5 count first) capacity (up_to_buffers capacity counts) counts
-        (buffers_in buffers.old variables.old types.old)
-        (buffers_in buffers.new variables.new types.new) result }
+pub fn walk_buffers(filling: &mut Filling<'_>, buffers: Records<'_>) -> Result<(), Refusal>
+    ensures walked { Walked (buffers_progress buffers.entry.chunk.bytes.now buffers.entry.chunk.sm5 buffers.entry.count buffers.entry.first)
+        filling.old.capacity (up_to_buffers filling.old.capacity filling.old.counts) filling.old.counts
+        (buffers_in filling.old.buffers.now filling.old.variables.now filling.old.types.now)
+        (buffers_in filling.new.buffers.now filling.new.variables.now filling.new.types.now) (counted result filling.new.counts) }
+    ensures kept { KeptBindings filling.old filling.new }
 {
-    let mut next = counts;
-    let mut at = first as usize;
-    for _ in 0..count {
-        let n = next.buffers;
-        if capacity.buffers <= n {
+    let mut at = buffers.first as usize;
+    for _ in 0..buffers.count {
+        let n = filling.counts.buffers;
+        if filling.capacity.buffers <= n {
             return Err(Refusal::NoRoom);
         }
-        if !words::inside(chunk.len(), at, BUFFER_STRIDE as usize) {
-            return Err(Refusal::RecordPastEnd);
-        }
-        let many = words::word_at(chunk, at + 4);
-        let start = words::word_at(chunk, at + 8);
-        next.buffers = n + 1;
-        next = walk_variables(
-            chunk, start, many, sm5, capacity, variables, types, path, next,
-        )?;
-        let name = words::word_at(chunk, at);
-        let found = text::cstring_at(chunk, name as usize).ok_or(Refusal::BadName)?;
-        let buffer = buffer_record(chunk, at, in_chunk(found.place as u32, found.length as u32));
-        tables::put_buffer(buffers, n, buffer);
+        let record = buffers.chunk.record(at, BUFFER_STRIDE as usize)?;
+        let variables = Records {
+            chunk: buffers.chunk,
+            first: record.word(8),
+            count: record.word(4),
+        };
+        filling.counts.buffers = n + 1;
+        walk_variables(filling, variables)?;
+        let name = record.name()?;
+        tables::put_buffer(filling.buffers, n, buffer_record(record, name));
         at += BUFFER_STRIDE as usize;
     }
-    Ok(next)
+    Ok(())
 }

@@ -1,23 +1,21 @@
 // The walk of a buffer's variables, each with the nodes of its type.
-ghost use Rattle.std.specs.Prelude.{◌≡◌, true, ◌+◌, ◌≤◌, length};
+ghost use Rattle.std.specs.Prelude.{◌≡◌, ◌+◌};
 ghost use Rattle.words.specs.Words.{word_at};
 ghost use Rattle.text.specs.Strings.{FoundWithin};
 ghost use Rattle.reflection.specs.Limits.{chunk_limit};
 ghost use Rattle.read_spec.specs.Read.{variable_stride, default_at};
 ghost use Rattle.read_types.specs.Walked.{Walked};
-ghost use Rattle.read_tables.specs.Variables.{variable_record_in_chunk, variables_progress, variables_in, up_to_variables, ReadyVariables};
+ghost use Rattle.read_types.specs.Filling.{counted};
+ghost use Rattle.read_tables.specs.Variables.{variable_record_in_chunk, variables_progress, variables_in, up_to_variables, OnlyVariables};
 
 use flags::VariableFlags;
-use read_spec::Counts;
-use read_types::Member;
-use reflection::{
-    CBufferVariable, Refusal, SM5_VARIABLE_STRIDE, TYPE_LEVELS, Text, VARIABLE_STRIDE, in_chunk,
-};
+use read_types::{Filling, Record, Records, found_or, walk_root};
+use reflection::{CBufferVariable, Refusal, SM5_VARIABLE_STRIDE, Text, VARIABLE_STRIDE};
 use text::Span;
 
 // How many bytes a variable takes.
 fn variable_stride(sm5: bool) -> usize
-    ensures { (result ≡ variable_stride sm5) × (result ≤ variable_stride true) }
+    ensures { result ≡ variable_stride sm5 }
 {
     if sm5 {
         SM5_VARIABLE_STRIDE as usize
@@ -26,103 +24,67 @@ fn variable_stride(sm5: bool) -> usize
     }
 }
 
-// The default of the variable at `at`: offset 0 means empty, any other must lie in the chunk.
+// A variable's default: offset 0 means empty, any other must lie in the chunk.
 #[tactic(auto, using(crate::proofs::Default::default_empty))]
-fn default_of(chunk: &[u8], at: usize) -> Option<Span>
-    requires { at ≤ chunk_limit }
-    ensures { (result ≡ default_at chunk.now (word_at chunk.now (at + 20)) (word_at chunk.now (at + 8)))
-        × FoundWithin (length chunk.now) result }
+fn default_of(variable: Record<'_>) -> Option<Span>
+    ensures is { result ≡ default_at variable.entry.chunk.bytes.now (word_at variable.entry.chunk.bytes.now (variable.entry.at + 20))
+        (word_at variable.entry.chunk.bytes.now (variable.entry.at + 8)) }
+    ensures within { FoundWithin chunk_limit result }
 {
-    let offset = words::word_at(chunk, at + 20);
-    let size = words::word_at(chunk, at + 8);
-    if offset == 0 {
+    let place = variable.word(20) as usize;
+    let length = variable.word(8) as usize;
+    if place == 0 {
         return Some(Span {
             place: 0,
             length: 0,
         });
     }
-    words::inside(chunk.len(), offset as usize, size as usize).then_some(Span {
-        place: offset as usize,
-        length: size as usize,
-    })
+    words::inside(variable.chunk.bytes.len(), place, length).then_some(Span { place, length })
 }
 
-// The variable at `at`, whose name and default are known.
+// The variable, whose name and default are known.
 #[tactic(auto, unfolding(crate::specs::Variables::variable_record_in_chunk))]
-fn variable_record(chunk: &[u8], at: usize, sm5: bool, name: Text, default: Text) -> CBufferVariable
-    requires { at ≤ chunk_limit }
-    ensures { result ≡ variable_record_in_chunk chunk.now sm5 at name default }
+fn variable_record(variable: Record<'_>, name: Text, default: Text) -> CBufferVariable
+    ensures { result ≡ variable_record_in_chunk variable.entry.chunk.bytes.now variable.entry.chunk.sm5 variable.entry.at name default }
 {
+    let sm5 = variable.chunk.sm5;
     CBufferVariable {
         name,
-        offset: words::word_at(chunk, at + 4),
-        size: words::word_at(chunk, at + 8),
-        flags: VariableFlags(words::word_at(chunk, at + 12)),
+        offset: variable.word(4),
+        size: variable.word(8),
+        flags: VariableFlags(variable.word(12)),
         default_value: default,
-        texture_start: words::word_if(chunk, sm5, at + 24),
-        texture_size: words::word_if(chunk, sm5, at + 28),
-        sampler_start: words::word_if(chunk, sm5, at + 32),
-        sampler_size: words::word_if(chunk, sm5, at + 36),
+        texture_start: variable.word_if(sm5, 24),
+        texture_size: variable.word_if(sm5, 28),
+        sampler_start: variable.word_if(sm5, 32),
+        sampler_size: variable.word_if(sm5, 36),
     }
 }
 
-// Walks `count` variables, whose records begin at `first`: they, and the nodes of their types, follow those that there are.
+// Walks variables: they, and the nodes of their types, follow those that there are.
 #[tactic(auto, using(words::proofs::Parts::inside_fits))]
-pub fn walk_variables(
-    chunk: &[u8],
-    first: u32,
-    count: u32,
-    sm5: bool,
-    capacity: Counts,
-    variables: &mut [u32],
-    types: &mut [u32],
-    path: &mut [u32],
-    counts: Counts,
-) -> Result<Counts, Refusal>
-    requires { ReadyVariables chunk.now capacity counts variables.old types.old path.old }
-    ensures { Walked (variables_progress chunk.now sm5 count first) capacity (up_to_variables capacity counts) counts
-        (variables_in variables.old types.old) (variables_in variables.new types.new) result }
+pub fn walk_variables(filling: &mut Filling<'_>, variables: Records<'_>) -> Result<(), Refusal>
+    ensures walked { Walked
+        (variables_progress variables.entry.chunk.bytes.now variables.entry.chunk.sm5 variables.entry.count variables.entry.first)
+        filling.old.capacity (up_to_variables filling.old.capacity filling.old.counts) filling.old.counts
+        (variables_in filling.old.variables.now filling.old.types.now) (variables_in filling.new.variables.now filling.new.types.now)
+        (counted result filling.new.counts) }
+    ensures kept { OnlyVariables filling.old filling.new }
 {
-    let root = Member {
-        name: in_chunk(0, 0),
-        offset: 0,
-    };
-    let stride = variable_stride(sm5);
-    let mut next = counts;
-    let mut at = first as usize;
-    for _ in 0..count {
-        let n = next.variables;
-        if capacity.variables <= n {
+    let stride = variable_stride(variables.chunk.sm5);
+    let mut at = variables.first as usize;
+    for _ in 0..variables.count {
+        let n = filling.counts.variables;
+        if filling.capacity.variables <= n {
             return Err(Refusal::NoRoom);
         }
-        if !words::inside(chunk.len(), at, stride) {
-            return Err(Refusal::RecordPastEnd);
-        }
-        let default = default_of(chunk, at).ok_or(Refusal::DefaultPastEnd)?;
-        let name = words::word_at(chunk, at);
-        let found = text::cstring_at(chunk, name as usize).ok_or(Refusal::BadName)?;
-        let variable = variable_record(
-            chunk,
-            at,
-            sm5,
-            in_chunk(found.place as u32, found.length as u32),
-            in_chunk(default.place as u32, default.length as u32),
-        );
-        tables::put_variable(variables, n, variable);
-        next.variables = n + 1;
-        let below = words::word_at(chunk, at + 16);
-        next = read_types::walk_type(
-            chunk,
-            below,
-            sm5,
-            TYPE_LEVELS,
-            root,
-            capacity,
-            types,
-            path,
-            next,
-        )?;
+        let record = variables.chunk.record(at, stride)?;
+        let default = found_or(default_of(record), Refusal::DefaultPastEnd)?;
+        let name = record.name()?;
+        tables::put_variable(filling.variables, n, variable_record(record, name, default));
+        filling.counts.variables = n + 1;
+        walk_root(filling, variables.chunk, record.word(16))?;
         at += stride;
     }
-    Ok(next)
+    Ok(())
 }

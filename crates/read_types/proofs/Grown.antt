@@ -17,14 +17,3 @@ types_further capacity a b = record {
   variables = further a.variables b.variables (omega arith) a.variables.high;
   types = further a.types b.types (omega arith) (omega arith);
 }
-
--- No record yet.
-pub none_grown : {most : Counts} (n : Counts) → n.bindings ≤ most.bindings → n.buffers ≤ most.buffers → n.variables ≤ most.variables
-    → n.types ≤ most.types
-    → AllGrew most n n
-none_grown n b f v t = record {
-  bindings = record { low = omega arith; high = b };
-  buffers = record { low = omega arith; high = f };
-  variables = record { low = omega arith; high = v };
-  types = record { low = omega arith; high = t };
-}

@@ -2,7 +2,9 @@
 mod Members
 mod Types
 mod Path
-mod Names
+pub mod Names
+pub mod InChunk
+pub mod Kept
 pub mod Table
 pub mod Grown
 mod MembersWalk

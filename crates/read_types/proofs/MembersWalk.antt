@@ -2,11 +2,10 @@
 use Rattle.std.specs.Prelude.{None, Ok, Err, Some}
 use Rattle.reflection.specs.declared.refusal.Refusal.TheVariants.{RecordPastEnd, BadName}
 use Rattle.reflection.specs.declared.refusal.Refusal.{Refusal}
-use mathlib.Core.Path.{◌≡◌, refl, sym, ap, ◌∙◌}
+use mathlib.Core.Path.{◌≡◌, sym, ap, ◌∙◌}
 use mathlib.Core.Bool.{Bool, true, false}
 use mathlib.Core.List.{List}
 use Prim.Native.Nat.{ℕ, ◌+◌, ◌-◌, ◌≤◌, ◌<◌}
-use native.Mathlib.Omega.{arith}
 use lib.ListN.{length, take}
 use Rattle.words.specs.Words.{word_at}
 use Rattle.words.specs.Parts.{inside}
@@ -20,8 +19,8 @@ use Rattle.read_spec.specs.declared.Counts.{Counts}
 use Rattle.read_spec.specs.Step.{Room, Walk}
 use Rattle.read_types.specs.Progress.{Progress, onward}
 use Rattle.read_types.specs.Walked.{room_left, answered, AllGrew}
-use Rattle.read_types.specs.Walk.{turned, type_progress, members_progress, nodes_in, up_to_types, ReadyLevels, WalkedType}
-use Rattle.read_types.proofs.Grown.{none_grown, types_further}
+use Rattle.read_types.specs.Walk.{turned, type_progress, members_progress, nodes_in, up_to_types, WalkedType}
+use Rattle.read_types.proofs.Grown.{types_further}
 use Rattle.read_types.proofs.Members.{members_none, members_short, members_bad, members_on}
 
 -- The loop's invariant: from n records, and the table and the path at entry (types₀, path₀), the walk came to `next` and these, with `left` members left,
@@ -34,18 +33,6 @@ pub record Going (s : List ℕ) (sm5 : Bool) (first count levels : ℕ) (capacit
   pub grew : AllGrew (up_to_types capacity n) n next
   pub types_long : length types ≡ length types₀
   pub path_long : length path ≡ length path₀
-
--- No member is read yet.
-pub starts : {s : List ℕ} {sm5 : Bool} {first count levels : ℕ} {capacity n : Counts} {types path : List ℕ} {left : ℕ} → ReadyLevels s levels capacity n types path
-    → left ≡ count
-    → Going s sm5 first count levels capacity n types path types path n first left
-starts {s} {sm5} {first} {levels = levels} {capacity} {n} {types} {path} ready all = record {
-  same = ap (λ (k : ℕ). members_progress s sm5 levels (turned (take (type_levels - levels) path)) k first (nodes_in types n) (room_left capacity n)) (sym all);
-  above = refl;
-  grew = none_grown n (omega arith) (omega arith) (omega arith) ready.ready.types_fit.taken;
-  types_long = refl;
-  path_long = refl;
-}
 
 -- The member at `at` is there: its name has k bytes at `place`, its type lies at `below`, and its offset is `offset`.
 pub record MemberAt (s : List ℕ) (at left place k below offset : ℕ) : Type 0 where

@@ -21,8 +21,8 @@ use Rattle.read_spec.specs.declared.Counts.{Counts}
 use Rattle.read_spec.specs.Step.{Room, room, Walk}
 use Rattle.read_spec.specs.Read.{on_path, type_stride, type_name_at}
 use Rattle.read_types.specs.Progress.{Progress, stopped, reached}
-use Rattle.read_types.specs.Walked.{room_left, answered, AllGrew}
-use Rattle.read_types.specs.Walk.{node_from_chunk, turned, type_progress, members_progress, nodes_in, up_to_types, ReadyLevels, WalkedType}
+use Rattle.read_types.specs.Walked.{HasRoom, room_left, answered, AllGrew}
+use Rattle.read_types.specs.Walk.{node_from_chunk, turned, type_progress, members_progress, nodes_in, up_to_types, WalkedType}
 use Rattle.read_types.proofs.Grown.{types_further}
 use Rattle.read_types.proofs.Path.{on_turned, turned_longer, take_less}
 use Rattle.read_types.proofs.Table.{node_appended}
@@ -49,8 +49,7 @@ one_grown capacity n free = record {
 }
 
 -- The tests of a type, in the order of the walk: depth, path, room, range. The tables stay as they were where one fails.
-module _ {s : List ℕ} {levels : ℕ} {capacity n : Counts} {types path : List ℕ} (ready : ReadyLevels s levels capacity n types path)
-    (sm5 : Bool) (at : ℕ) (mn : Text) (mo : ℕ) where
+module _ (s : List ℕ) (sm5 : Bool) (at : ℕ) (mn : Text) (mo levels : ℕ) (capacity n : Counts) (types path : List ℕ) where
   abbrev path_in : List ℕ
   path_in = take (type_levels - levels) path
 
@@ -86,7 +85,9 @@ module _ {s : List ℕ} {levels : ℕ} {capacity n : Counts} {types path : List 
 -- The type passed its tests, its node is written, and `count` members lie from `first` on.
 pub record Entered (s : List ℕ) (sm5 : Bool) (at : ℕ) (mn : Text) (mo levels : ℕ) (capacity n : Counts) (types path types₁ : List ℕ) (count first : ℕ)
     : Type 0 where
-  pub ready : ReadyLevels s levels capacity n types path
+  pub levels_fit : levels ≤ type_levels
+  pub path_long : length path ≡ type_levels
+  pub types_fit : HasRoom type_width capacity.types n.types types
   pub level : levels ≡ 0 → ⊥
   pub fresh : on_path at (take (type_levels - levels) path) ≡ false
   pub free : n.types < capacity.types
@@ -112,15 +113,15 @@ module _ {s : List ℕ} {sm5 : Bool} {at : ℕ} {mn : Text} {mo levels : ℕ} {c
   node_put : nodes_in types₁ (with_node n) ≡ nodes_in types n ++ node
   node_put =
       ap (take ((n.types + 1) * type_width)) e.put
-      ∙ node_appended types n.types (type_record (node_from_chunk s sm5 at mn mo)) (omega (arith, e.free, e.ready.ready.types_fit.fits))
+      ∙ node_appended types n.types (type_record (node_from_chunk s sm5 at mn mo)) (omega (arith, e.free, e.types_fit.fits))
 
   one_deeper : type_levels - (levels - 1) ≡ suc (type_levels - levels)
-  one_deeper = omega (arith, e.ready.levels_fit, e.level)
+  one_deeper = omega (arith, e.levels_fit, e.level)
 
   path_put : turned (take (type_levels - (levels - 1)) path₁) ≡ at ∷ turned above
   path_put =
       ap (λ (k : ℕ). turned (take k path₁)) one_deeper
-      ∙ ap turned (take-suc-set path (type_levels - levels) at (omega (arith, e.ready.ready.path_is, e.level)))
+      ∙ ap turned (take-suc-set path (type_levels - levels) at (omega (arith, e.path_long, e.level)))
       ∙ turned_longer above [] at
 
   -- The members were walked, and left types₂ and path₂.

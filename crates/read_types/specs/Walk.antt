@@ -1,9 +1,9 @@
 -- Vocabulary of internal contracts: no contract of an exported function and no demand cites it.
--- The walk of a type: what it is given, and what it leaves.
+-- The walk of a type: what it leaves.
 use Rattle.text.specs.declared.Span.{Span}
-use Rattle.std.specs.Prelude.{◌≡◌, Bool, List, [], ◌∷◌, ◌++◌, ℕ, ◌+◌, ◌*◌, ◌-◌, ◌≤◌, length, take, Option, None, Some}
+use Rattle.std.specs.Prelude.{◌≡◌, Bool, List, [], ◌∷◌, ◌++◌, ℕ, ◌+◌, ◌*◌, ◌-◌, take, Option, None, Some}
 use Rattle.words.specs.Words.{high_at}
-use Rattle.reflection.specs.Limits.{chunk_limit, type_width, type_levels}
+use Rattle.reflection.specs.Limits.{type_width, type_levels}
 use Rattle.reflection.specs.declared.Text.{Text}
 use Rattle.reflection.specs.Reflection.{TypeDesc, type_desc, Members, no_member, member, member_count}
 use Rattle.reflection.specs.Texts.{in_chunk}
@@ -14,7 +14,7 @@ use Rattle.read_spec.specs.Step.{Room, Walk}
 use Rattle.read_spec.specs.Read.{read_type, read_members, numbers_from, type_name_at}
 use Rattle.read_spec.specs.declared.Counts.{Counts}
 use Rattle.read_types.specs.Progress.{Progress, progress}
-use Rattle.read_types.specs.Walked.{HasRoom, Walked}
+use Rattle.read_types.specs.Walked.{Walked}
 
 -- A type's nodes in walk order, after the words w.
 unfoldable mutual
@@ -65,18 +65,7 @@ nodes_in types n = take (n.types * type_width) types
 abbrev pub up_to_types : Counts → Counts → Counts
 up_to_types capacity n = record { bindings = n.bindings; buffers = n.buffers; variables = n.variables; types = capacity.types }
 
--- What the walk of a type is given: a chunk whose places fit a word, the path, and room for nodes.
-pub record ReadyType (chunk : List ℕ) (capacity n : Counts) (types path : List ℕ) : Type 0 where
-  pub chunk-fits : length chunk ≤ chunk_limit
-  pub path_is : length path ≡ type_levels
-  pub types_fit : HasRoom type_width capacity.types n.types types
-
--- The same, and so many levels left.
-pub record ReadyLevels (chunk : List ℕ) (levels : ℕ) (capacity n : Counts) (types path : List ℕ) : Type 0 where
-  pub ready : ReadyType chunk capacity n types path
-  pub levels_fit : levels ≤ type_levels
-
--- What it leaves: its progress, and the path down to its own level as it was.
+-- What the walk of a type leaves: its progress, and the path down to its own level as it was.
 pub record WalkedType (out : List ℕ → Room → Progress (List ℕ)) (levels : ℕ) (capacity n : Counts) (types types' path path' : List ℕ) (r : Walk) : Type 0 where
   pub walked : Walked out capacity (up_to_types capacity n) n (nodes_in types) (nodes_in types') r
   pub above : take (type_levels - levels) path' ≡ take (type_levels - levels) path

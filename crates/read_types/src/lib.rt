@@ -1,24 +1,34 @@
 // The walk of a type descriptor: a type walks its members and each member walks its type, one level deeper (document 01, "Walk order").
 #![tactic(auto)]
 
-ghost use Rattle.std.specs.Prelude.{◌≡◌, ◌-◌, length, take};
+ghost use Rattle.std.specs.Prelude.{◌≡◌, [], ◌-◌, ◌≤◌, length, take};
 ghost use Rattle.text.specs.Strings.{FoundWithin};
 ghost use Rattle.reflection.specs.Limits.{chunk_limit, type_levels};
+ghost use Rattle.reflection.specs.Texts.{in_chunk};
 ghost use Rattle.tables.specs.Tables.{type_record};
 ghost use Rattle.read_spec.specs.Read.{type_stride, type_name_at};
-ghost use Rattle.read_types.specs.Walk.{found_text, node_from_chunk, turned, type_progress, members_progress, ReadyLevels, WalkedType};
+ghost use Rattle.read_types.specs.Walk.{found_text, node_from_chunk, turned, type_progress, members_progress, nodes_in, up_to_types, WalkedType};
+ghost use Rattle.read_types.specs.Walked.{Walked};
+ghost use Rattle.read_types.specs.Filling.{counted, OnlyTypes};
 
-use read_spec::Counts;
 use reflection::{
     MEMBER_STRIDE, Refusal, SM5_TYPE_STRIDE, TYPE_LEVELS, TYPE_STRIDE, Text, TypeDesc, in_chunk,
 };
 use text::Span;
 
+mod chunk;
+mod filling;
+mod found;
+
+pub use chunk::{Chunk, Record, Records};
+pub use filling::Filling;
+pub use found::{found_or, text_at};
+
 // What a member says of its type: its name and its offset.
 #[derive(Clone, Copy)]
-pub struct Member {
-    pub name: Text,
-    pub offset: u32,
+struct Member {
+    name: Text,
+    offset: u32,
 }
 
 // How many bytes a type descriptor takes.
@@ -32,51 +42,42 @@ fn type_stride(sm5: bool) -> usize
     }
 }
 
-// The name of the type at `at`: only major 5 has one, and offset 0 means empty.
-#[tactic(auto, using(crate::proofs::Names::empty_name, crate::proofs::Names::some_name))]
-fn type_name_at(chunk: &[u8], at: u32, sm5: bool) -> Option<Span>
-    ensures { (result ≡ type_name_at chunk.now sm5 at) × FoundWithin (length chunk.now) result }
+// A type's name: only major 5 has one, and offset 0 means empty.
+#[tactic(auto, using(crate::proofs::Names::empty_name, crate::proofs::Names::some_name, crate::proofs::Names::within_more))]
+fn type_name_at(descriptor: Record<'_>) -> Option<Span>
+    ensures is { result ≡ type_name_at descriptor.entry.chunk.bytes.now descriptor.entry.chunk.sm5 descriptor.entry.at }
+    ensures within { FoundWithin chunk_limit result }
 {
-    let offset = words::word_if(chunk, sm5, at as usize + 32);
+    let chunk = descriptor.chunk;
+    let offset = descriptor.word_if(chunk.sm5, 32);
     if offset == 0 {
         Some(Span {
             place: 0,
             length: 0,
         })
     } else {
-        text::cstring_at(chunk, offset as usize)
+        text::cstring_at(chunk.bytes, offset as usize)
     }
 }
 
-// What was found, as a text of the chunk; empty where it is bad.
-fn found_text(found: Option<Span>) -> Text
-    requires { FoundWithin chunk_limit found }
-    ensures { result ≡ found_text found }
-{
-    match found {
-        Some(span) => in_chunk(span.place as u32, span.length as u32),
-        None => in_chunk(0, 0),
-    }
-}
-
-// The node of the type at `at`, whose name is known and which `member` leads to.
+// The node of a type, whose name is known and which `member` leads to.
 #[tactic(auto, unfolding(crate::specs::Walk::node_from_chunk, read_spec::specs::Read::numbers_from, tables::specs::Tables::type_record))]
-fn type_node(chunk: &[u8], at: u32, sm5: bool, name: Text, member: Member) -> TypeDesc
-    requires { name ≡ found_text (type_name_at chunk.now sm5 at) }
-    ensures { result ≡ type_record (node_from_chunk chunk.now sm5 at member.name member.offset) }
+fn type_node(descriptor: Record<'_>, name: Text, member: Member) -> TypeDesc
+    requires { name ≡ found_text (type_name_at descriptor.chunk.bytes.now descriptor.chunk.sm5 descriptor.at) }
+    ensures { result ≡ type_record (node_from_chunk descriptor.entry.chunk.bytes.now descriptor.entry.chunk.sm5 descriptor.entry.at member.name member.offset) }
 {
-    let base = at as usize;
+    let sm5 = descriptor.chunk.sm5;
     TypeDesc {
-        class: words::low_at(chunk, base),
-        var_type: words::high_at(chunk, base),
-        rows: words::low_at(chunk, base + 4),
-        columns: words::high_at(chunk, base + 4),
-        elements: words::low_at(chunk, base + 8),
-        member_count: words::high_at(chunk, base + 8),
-        extra0: words::word_if(chunk, sm5, base + 16),
-        extra1: words::word_if(chunk, sm5, base + 20),
-        extra2: words::word_if(chunk, sm5, base + 24),
-        extra3: words::word_if(chunk, sm5, base + 28),
+        class: descriptor.low(0),
+        var_type: descriptor.high(0),
+        rows: descriptor.low(4),
+        columns: descriptor.high(4),
+        elements: descriptor.low(8),
+        member_count: descriptor.high(8),
+        extra0: descriptor.word_if(sm5, 16),
+        extra1: descriptor.word_if(sm5, 20),
+        extra2: descriptor.word_if(sm5, 24),
+        extra3: descriptor.word_if(sm5, 28),
         name,
         member_name: member.name,
         member_offset: member.offset,
@@ -85,101 +86,89 @@ fn type_node(chunk: &[u8], at: u32, sm5: bool, name: Text, member: Member) -> Ty
 
 // Walks the type at `at`: its node follows those that there are.
 #[cycle(walk_members_walk_type)]
-pub fn walk_type(
-    chunk: &[u8],
+fn walk_type(
+    filling: &mut Filling<'_>,
+    chunk: Chunk<'_>,
     at: u32,
-    sm5: bool,
     levels: usize,
     member: Member,
-    capacity: Counts,
-    types: &mut [u32],
-    path: &mut [u32],
-    counts: Counts,
-) -> Result<Counts, Refusal>
-    requires { ReadyLevels chunk.now levels capacity counts types.old path.old }
-    ensures { WalkedType
-        (type_progress chunk.now sm5 levels (turned (take (type_levels - levels) path.old)) at member.name member.offset)
-        levels capacity counts types.old types.new path.old path.new result }
+) -> Result<(), Refusal>
+    requires { levels ≤ type_levels }
+    ensures walked { WalkedType
+        (type_progress chunk.entry.bytes.now chunk.entry.sm5 levels (turned (take (type_levels - levels) filling.old.path)) at member.name member.offset)
+        levels filling.old.capacity filling.old.counts filling.old.types.now filling.new.types.now filling.old.path filling.new.path
+        (counted result filling.new.counts) }
+    ensures kept { OnlyTypes filling.old filling.new }
 {
     if levels == 0 {
         return Err(Refusal::TypeTooDeep);
     }
     let depth = TYPE_LEVELS - levels;
-    if path[..depth].contains(&at) {
+    if filling.path[..depth].contains(&at) {
         return Err(Refusal::TypeCycle);
     }
-    let n = counts.types;
-    if capacity.types <= n {
+    let n = filling.counts.types;
+    if filling.capacity.types <= n {
         return Err(Refusal::NoRoom);
     }
-    let base = at as usize;
-    if !words::inside(chunk.len(), base, type_stride(sm5)) {
-        return Err(Refusal::RecordPastEnd);
-    }
-    let name = type_name_at(chunk, at, sm5);
-    let node = type_node(chunk, at, sm5, found_text(name), member);
-    tables::put_type(types, n, node);
-    path[depth] = at;
-    let count = words::high_at(chunk, base + 8);
-    let first = words::word_at(chunk, base + 12);
-    let with_node = Counts {
-        types: n + 1,
-        ..counts
-    };
-    let after = walk_members(
+    let record = chunk.record(at as usize, type_stride(chunk.sm5))?;
+    let name = type_name_at(record);
+    let node = type_node(record, found::found_text(name), member);
+    tables::put_type(filling.types, n, node);
+    filling.counts.types = n + 1;
+    filling.path[depth] = at;
+    let members = Records {
         chunk,
-        first,
-        count,
-        sm5,
-        levels - 1,
-        capacity,
-        types,
-        path,
-        with_node,
-    )?;
+        first: record.word(12),
+        count: record.high(8),
+    };
+    walk_members(filling, members, levels - 1)?;
     if name.is_none() {
         return Err(Refusal::BadName);
     }
-    Ok(after)
+    Ok(())
 }
 
-// Walks `count` members, whose records begin at `first`: the nodes of their types follow those that there are. A loop, so that the stack holds at most two
-// frames for each level.
+// Walks members: the nodes of their types follow those that there are. A loop, so that the stack holds at most two frames for each level.
 #[cycle(walk_members_walk_type)]
 #[tactic(auto, using(words::proofs::Parts::inside_fits))]
 fn walk_members(
-    chunk: &[u8],
-    first: u32,
-    count: u32,
-    sm5: bool,
+    filling: &mut Filling<'_>,
+    members: Records<'_>,
     levels: usize,
-    capacity: Counts,
-    types: &mut [u32],
-    path: &mut [u32],
-    counts: Counts,
-) -> Result<Counts, Refusal>
-    requires { ReadyLevels chunk.now levels capacity counts types.old path.old }
-    ensures { WalkedType
-        (members_progress chunk.now sm5 levels (turned (take (type_levels - levels) path.old)) count first)
-        levels capacity counts types.old types.new path.old path.new result }
+) -> Result<(), Refusal>
+    requires { levels ≤ type_levels }
+    ensures walked { WalkedType
+        (members_progress members.entry.chunk.bytes.now members.entry.chunk.sm5 levels (turned (take (type_levels - levels) filling.old.path))
+        members.entry.count members.entry.first)
+        levels filling.old.capacity filling.old.counts filling.old.types.now filling.new.types.now filling.old.path filling.new.path
+        (counted result filling.new.counts) }
+    ensures kept { OnlyTypes filling.old filling.new }
 {
-    let mut next = counts;
-    let mut at = first as usize;
-    for _ in 0..count {
-        if !words::inside(chunk.len(), at, MEMBER_STRIDE as usize) {
-            return Err(Refusal::RecordPastEnd);
-        }
-        let name = words::word_at(chunk, at);
-        let below = words::word_at(chunk, at + 4);
-        let found = text::cstring_at(chunk, name as usize).ok_or(Refusal::BadName)?;
+    let mut at = members.first as usize;
+    for _ in 0..members.count {
+        let record = members.chunk.record(at, MEMBER_STRIDE as usize)?;
         let member = Member {
-            name: in_chunk(found.place as u32, found.length as u32),
-            offset: words::word_at(chunk, at + 8),
+            name: record.name()?,
+            offset: record.word(8),
         };
-        next = walk_type(
-            chunk, below, sm5, levels, member, capacity, types, path, next,
-        )?;
+        walk_type(filling, members.chunk, record.word(4), levels, member)?;
         at += MEMBER_STRIDE as usize;
     }
-    Ok(next)
+    Ok(())
+}
+
+// Walks the type at `at`, which no member leads to.
+#[tactic(auto, unfolding(crate::specs::Walk::turned_onto))]
+pub fn walk_root(filling: &mut Filling<'_>, chunk: Chunk<'_>, at: u32) -> Result<(), Refusal>
+    ensures walked { Walked (type_progress chunk.entry.bytes.now chunk.entry.sm5 type_levels [] at (in_chunk 0 0) 0)
+        filling.old.capacity (up_to_types filling.old.capacity filling.old.counts) filling.old.counts
+        (nodes_in filling.old.types.now) (nodes_in filling.new.types.now) (counted result filling.new.counts) }
+    ensures kept { OnlyTypes filling.old filling.new }
+{
+    let root = Member {
+        name: in_chunk(0, 0),
+        offset: 0,
+    };
+    walk_type(filling, chunk, at, TYPE_LEVELS, root)
 }

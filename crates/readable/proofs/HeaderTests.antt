@@ -7,7 +7,7 @@ use Rattle.reflection.specs.Strides.{rd11_header_size, buffer_stride, variable_s
 use Rattle.reflection.specs.Rd11.{rd11_allowed}
 use Rattle.reflection.specs.Reflection.{major_of, is_sm5}
 use Rattle.reflection.specs.Rd11.{rd11_from_header}
-use Rattle.reflection.proofs.Rd11Words.{sm5_is, rd11_by_sm5}
+use Rattle.reflection.proofs.Rd11BySm5.{sm5_is, rd11_by_sm5}
 use Rattle.readable.specs.Readable.{version_readable}
 
 module _ (h : Header) where

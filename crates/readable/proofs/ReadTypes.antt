@@ -24,7 +24,7 @@ use Rattle.reflection.specs.declared.Text.{Text}
 use Rattle.reflection.specs.Reflection.{TypeDesc, Members, member_count}
 use Rattle.tables.specs.Nodes.{Node, nodes_of, nodes_of_members}
 use Rattle.reflection.specs.Texts.{in_chunk}
-use Rattle.reflection.proofs.Texts.{place_in_chunk}
+use Rattle.reflection.proofs.TextParts.{place_in_chunk}
 use Rattle.reflection.specs.Contents.{Bytes}
 use Rattle.read_spec.specs.Step.{Room, ReadStep, return, refuse}
 use Rattle.read_spec.specs.Read.{read_members, cstring_or_empty, type_name_at, numbers_from, read_type, default_at}

@@ -1,11 +1,11 @@
 -- What the definitions say of a record, as the code joins its tests, of the records from one on, the first and then the others, and of a name by its source.
-use mathlib.Core.Path.{◌≡◌, refl, ap, ◌∙◌}
+use mathlib.Core.Path.{◌≡◌, refl, sym, ap, ◌∙◌}
 use mathlib.Core.Bool.{Bool, true, false, ◌&&◌, ◌||◌, not, and-true}
 use mathlib.Core.List.{List, [], ◌∷◌}
 use Prim.Native.Nat.{ℕ, zero, suc, ◌+◌, ◌-◌, ◌≤◌, ◌<◌}
 use native.Mathlib.Omega.{arith}
 use Rattle.std.specs.List.{list_all, range_with_len}
-use lib.Dec.{eqb, leb}
+use lib.Dec.{eqb, leb, ltb, leb-suc-suc}
 use lib.ListN.{length}
 use Rattle.words.specs.Parts.{inside, part}
 use Rattle.codes.specs.Table.{known}
@@ -17,10 +17,12 @@ use Rattle.reflection.specs.declared.TypeDesc.{TypeDesc as TypeRecord}
 use Rattle.tables.specs.Records.{buffer_at}
 use Rattle.tables.specs.Decode.{records_from, binding_from_table, node_from_table}
 use Rattle.reflection.specs.Contents.{Bytes}
-use Rattle.reflection.specs.Texts.{text_bytes}
-use Rattle.reflection.proofs.Texts.{place_in_chunk, place_in_edits, place_nowhere, bytes_in_chunk, bytes_in_edits}
+use Rattle.reflection.specs.Fits.{fits_u16}
+use Rattle.reflection.specs.Limits.{u16_limit}
+use Rattle.reflection.proofs.TextParts.{place_in_chunk, bytes_in_chunk}
 use Rattle.readable.specs.Readable.{every, name_readable, zero_unless, binding_readable, numbers_readable}
 use Rattle.readable.specs.Checks.{name_checked, binding_checked, buffers_take, buffers_checked, node_checked}
+use Rattle.readable.proofs.Bools.{tests-in-order}
 
 -- A binding and a node.
 pub binding_tested : (chunk edits : Bytes) (wide : Bool) (b : BindingRecord) → binding_checked chunk edits wide b
@@ -31,13 +33,31 @@ unfolding binding_checked binding_readable binding_from_table zero_unless every
 binding_tested chunk edits true b = refl
 binding_tested chunk edits false b = simp and-true
 
+sixteen_bits : (n : ℕ) → leb n 65535 ≡ ltb n u16_limit
+sixteen_bits n = sym (leb-suc-suc n 65535)
+
+in_node_order : (class var rows columns elements count e0 e1 e2 e3 unnamed named : Bool)
+    → (((class && (var && (rows && (columns && (elements && true))))) && (e0 && (e1 && (e2 && (e3 && true))))) && (count && ((unnamed && true) && named)))
+    ≡ ((class && (var && (rows && (columns && (elements && count))))) && ((e0 && (e1 && (e2 && (e3 && unnamed)))) && named))
+in_node_order class var rows columns elements count e0 e1 e2 e3 unnamed named = simp (and-true, tests-in-order)
+
+sm5_in_order : (class var rows columns elements count named : Bool)
+    → (((class && (var && (rows && (columns && (elements && true))))) && true) && (count && named))
+    ≡ ((class && (var && (rows && (columns && (elements && count))))) && named)
+sm5_in_order class var rows columns elements count named = simp (and-true, tests-in-order)
+
 pub node_tested : (chunk edits : Bytes) (sm5 inner : Bool) (t : TypeRecord) → node_checked chunk edits sm5 inner (node_from_table t)
-    ≡ (numbers_readable sm5 (node_from_table t).numbers
-    && (leb t.member_count 65535
-    && ((sm5 || eqb t.name.length 0) && (name_checked chunk edits t.name && (not inner || name_checked chunk edits t.member_name)))))
-unfolding node_checked node_from_table zero_unless every
-node_tested chunk edits true inner t = refl
-node_tested chunk edits false inner t = simp and-true
+    ≡ (fits_u16 t
+    && ((sm5 || (eqb t.extra0 0 && (eqb t.extra1 0 && (eqb t.extra2 0 && (eqb t.extra3 0 && eqb t.name.length 0)))))
+    && (name_checked chunk edits t.name && (not inner || name_checked chunk edits t.member_name))))
+unfolding node_checked node_from_table numbers_readable zero_unless every fits_u16
+node_tested chunk edits true inner t =
+    simp sixteen_bits (sm5_in_order (ltb t.class u16_limit) (ltb t.var_type u16_limit) (ltb t.rows u16_limit) (ltb t.columns u16_limit)
+    (ltb t.elements u16_limit) (ltb t.member_count u16_limit) (name_checked chunk edits t.name && (not inner || name_checked chunk edits t.member_name)))
+node_tested chunk edits false inner t =
+    simp sixteen_bits (in_node_order (ltb t.class u16_limit) (ltb t.var_type u16_limit) (ltb t.rows u16_limit) (ltb t.columns u16_limit)
+    (ltb t.elements u16_limit) (ltb t.member_count u16_limit) (eqb t.extra0 0) (eqb t.extra1 0) (eqb t.extra2 0) (eqb t.extra3 0) (eqb t.name.length 0)
+    (name_checked chunk edits t.name && (not inner || name_checked chunk edits t.member_name)))
 
 -- Every record from i on passes, in std's words.
 pub every_record : {A : Type 0} (test : A → Bool) (at : ℕ → A) (i n : ℕ) → list_all (λ k. test (at k)) (range_with_len i n) ≡ every test (records_from at i n)
@@ -72,18 +92,9 @@ module _ (chunk edits : Bytes) (t : List ℕ) (i n left : ℕ) where
   unfolding buffers_checked buffers_take
   buffers_next e = ap (λ bs. buffers_take chunk edits bs left) (records_next (buffer_at t) i n e)
 
--- A name by its source.
+-- A name in the chunk.
 module _ (chunk edits : Bytes) (t : Text) where
   pub name_in_chunk : t.source ≡ 0 → name_checked chunk edits t ≡ (inside (length chunk) t.place t.length && name_readable
       (part chunk t.place t.length))
   unfolding name_checked
   name_in_chunk e = (λ i. place_in_chunk chunk edits t e i && name_readable (bytes_in_chunk chunk edits t e i))
-
-  pub name_in_edits : (t.source ≡ 0 → ⊥) → t.source ≡ 1
-      → name_checked chunk edits t ≡ (inside (length edits) t.place t.length && name_readable (part edits t.place t.length))
-  unfolding name_checked
-  name_in_edits n e = (λ i. place_in_edits chunk edits t n e i && name_readable (bytes_in_edits chunk edits t n e i))
-
-  pub name_nowhere : (t.source ≡ 0 → ⊥) → (t.source ≡ 1 → ⊥) → name_checked chunk edits t ≡ false
-  unfolding name_checked
-  name_nowhere n m = ap (λ b. b && name_readable (text_bytes chunk edits t)) (place_nowhere chunk edits t n m)

@@ -13,7 +13,7 @@ use Rattle.tables.specs.Nodes.{Node, Built, ◌>>=◌, members_from_nodes, type_
 use Rattle.tables.specs.Decode.{guard}
 use Rattle.reflection.specs.Texts.{in_place, text_bytes}
 use Rattle.tables.proofs.Options.{then_was}
-use Rattle.reflection.proofs.Texts.{length_bytes}
+use Rattle.reflection.proofs.TextParts.{length_bytes}
 use Rattle.reflection.specs.Contents.{Bytes, type_names, member_names}
 use Rattle.readable.specs.Readable.{every, name_readable, zero_unless, numbers_readable, type_readable, members_readable}
 use Rattle.readable.specs.Checks.{name_checked, node_checked, members_left, type_left}

@@ -3,28 +3,26 @@ ghost use Rattle.std.specs.Prelude.{◌≡◌};
 ghost use Rattle.readable.specs.Checks.{buffers_checked};
 
 use crate::names::name_readable;
+use crate::subject::Subject;
 
-// Whether the first `count` buffers are readable, and count as many variables as there are.
-#[tactic(auto, using(crate::proofs::RecordTests::buffers_none, crate::proofs::RecordTests::buffers_next))]
-pub(crate) fn buffers_readable(
-    chunk: &[u8],
-    edits: &[u8],
-    table: &[u32],
-    count: u32,
-    variables: u32,
-) -> bool
-    ensures { result ≡ buffers_checked chunk.now edits.now table.now 0 count variables }
-{
-    let mut rest = variables;
-    for i in 0..count as usize {
-        let b = tables::buffer_at(table, i);
-        if !name_readable(chunk, edits, b.name) {
-            return false;
+impl Subject<'_> {
+    // Whether the buffers that the header counts are readable, and count as many variables as there are.
+    #[tactic(auto, using(crate::proofs::RecordTests::buffers_none, crate::proofs::RecordTests::buffers_next))]
+    pub(crate) fn buffers_readable(&self) -> bool
+        ensures { result ≡ buffers_checked self.now.texts.chunk.now self.now.texts.edits.now
+            self.now.r.buffers.now 0 self.now.r.def.buffer_count self.now.r.def.variable_count }
+    {
+        let mut rest = self.r.def.variable_count;
+        for i in 0..self.r.def.buffer_count as usize {
+            let b = tables::buffer_at(self.r.buffers, i);
+            if !name_readable(self.texts, b.name) {
+                return false;
+            }
+            let Some(left) = rest.checked_sub(b.variable_count) else {
+                return false;
+            };
+            rest = left;
         }
-        let Some(left) = rest.checked_sub(b.variable_count) else {
-            return false;
-        };
-        rest = left;
+        rest == 0
     }
-    rest == 0
 }

@@ -1,3 +1,3 @@
-pub mod Texts
-pub mod Rd11Words
+pub mod TextParts
+pub mod Rd11BySm5
 pub mod Equalities

@@ -6,3 +6,4 @@ pub mod Reflection
 pub mod Rd11
 pub mod Texts
 pub mod Contents
+pub mod Fits

@@ -1,6 +1,10 @@
 // A reflection held in lent tables: the structs of the Rust by value, each the record of a table.
 #![tactic(auto)]
 
+ghost use Rattle.std.specs.Prelude.{◌≡◌};
+ghost use Rattle.reflection.specs.Fits.{fits_u16};
+ghost use Rattle.reflection.specs.Texts.{text_of};
+
 use flags::{BindingFlags, VariableFlags};
 
 mod limits;
@@ -14,8 +18,8 @@ pub use limits::{
     CHUNK_LIMIT, HEADER_WORDS, TYPE_LEVELS, TYPE_ROOM, TYPE_TABLE, TYPE_WORDS, U16_LIMIT,
     VARIABLE_ROOM, VARIABLE_TABLE, VARIABLE_WORDS,
 };
-pub use names::{in_chunk, in_place, name_part, name_refusal};
-pub use rd11::{is_sm5, is_wide, major_of, rd11_allowed};
+pub use names::{Texts, in_chunk};
+pub use rd11::{Rd11Words, is_sm5, is_wide, major_of};
 pub use refusal::{Refusal, UnknownRefusal};
 pub use strides::{
     BINDING_STRIDE, BUFFER_STRIDE, HEADER_SIZE, MEMBER_STRIDE, RD11_HEADER_SIZE, RD11_IDENTIFIER,
@@ -27,11 +31,24 @@ pub use strides::{
 // should be 0 and is not, or is no code. 0 is what an unused word holds (docs/DECISIONS.md).
 
 // Where a name or a default lies: in the chunk (source 0) or in the text of edits (source 1), `length` bytes from `place` on.
-#[derive(Clone, Copy)]
+#[derive(Clone, Copy, PartialEq, Eq)]
 pub struct Text {
     pub source: u32,
     pub place: u32,
     pub length: u32,
+}
+
+// A text by its three words in a table.
+impl From<[u32; 3]> for Text {
+    ghost from_gives = { λ words text. text ≡ text_of words };
+
+    fn from([source, place, length]: [u32; 3]) -> Text {
+        Text {
+            source,
+            place,
+            length,
+        }
+    }
 }
 
 // The RD11 words that are free; all 0 for major 4.
@@ -111,4 +128,19 @@ pub struct TypeDesc {
     pub name: Text,
     pub member_name: Text,
     pub member_offset: u32,
+}
+
+impl TypeDesc {
+    // Whether each number that has 16 bits in a chunk fits 16 bits.
+    #[tactic(auto, unfolding(crate::specs::Fits::fits_u16))]
+    pub fn fits_u16(self) -> bool
+        ensures { result ≡ fits_u16 self }
+    {
+        self.class < U16_LIMIT
+            && self.var_type < U16_LIMIT
+            && self.rows < U16_LIMIT
+            && self.columns < U16_LIMIT
+            && self.elements < U16_LIMIT
+            && self.member_count < U16_LIMIT
+    }
 }

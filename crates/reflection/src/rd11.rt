@@ -33,24 +33,31 @@ pub fn is_wide(def: ResourceDef) -> bool
     is_sm5(def) && def.rd11.resource_binding_stride == WIDE_BINDING_STRIDE
 }
 
-// Whether these RD11 words are allowed: the identifier, then the size of the header and of a buffer, a binding, a variable, a type and a member.
-#[tactic(auto, unfolding(crate::specs::Rd11::rd11_allowed))]
-pub fn rd11_allowed(
-    identifier: u32,
-    header: u32,
-    buffer: u32,
-    binding: u32,
-    variable: u32,
-    kind: u32,
-    member: u32,
-) -> bool
-    ensures { result ≡ rd11_allowed identifier header buffer binding variable kind member }
-{
-    (identifier == RD11_IDENTIFIER || identifier == SM51_IDENTIFIER)
-        && header == RD11_HEADER_SIZE
-        && buffer == BUFFER_STRIDE
-        && (binding == BINDING_STRIDE || binding == WIDE_BINDING_STRIDE)
-        && variable == SM5_VARIABLE_STRIDE
-        && kind == SM5_TYPE_STRIDE
-        && member == MEMBER_STRIDE
+// The words of an RD11 header that are not free: the identifier, and the size of the header and of each record.
+#[derive(Clone, Copy)]
+pub struct Rd11Words {
+    pub identifier: u32,
+    pub header_size: u32,
+    pub buffer_stride: u32,
+    pub binding_stride: u32,
+    pub variable_stride: u32,
+    pub type_stride: u32,
+    pub member_stride: u32,
+}
+
+impl Rd11Words {
+    // Whether these words are allowed.
+    #[tactic(auto, unfolding(crate::specs::Rd11::rd11_allowed))]
+    pub fn allowed(self) -> bool
+        ensures { result ≡ rd11_allowed self.identifier self.header_size self.buffer_stride self.binding_stride
+            self.variable_stride self.type_stride self.member_stride }
+    {
+        (self.identifier == RD11_IDENTIFIER || self.identifier == SM51_IDENTIFIER)
+            && self.header_size == RD11_HEADER_SIZE
+            && self.buffer_stride == BUFFER_STRIDE
+            && (self.binding_stride == BINDING_STRIDE || self.binding_stride == WIDE_BINDING_STRIDE)
+            && self.variable_stride == SM5_VARIABLE_STRIDE
+            && self.type_stride == SM5_TYPE_STRIDE
+            && self.member_stride == MEMBER_STRIDE
+    }
 }

@@ -7,6 +7,7 @@ ghost use Rattle.text_output.specs.Written.{Answers};
 ghost use Rattle.refusal_text.specs.Sentences.{sentence};
 
 use reflection::Refusal;
+use text_output::Output;
 
 // What a refusal says.
 #[tactic(auto, unfolding(crate::specs::Sentences::sentence))]
@@ -48,6 +49,7 @@ pub fn refusal_text(number: u32, out: &mut [u8]) -> Result<usize, Refusal>
     ensures { Answers (Ok (sentence number)) out.old out.new result }
 {
     let text = Refusal::try_from(number).map_or("", sentence);
-    let end = text_output::put_bytes(out, 0, text.as_bytes());
-    text_output::finish(out, end)
+    let mut written = Output { bytes: out, at: 0 };
+    written.put_bytes(text.as_bytes());
+    written.finish()
 }

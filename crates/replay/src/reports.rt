@@ -2,6 +2,7 @@
 // comparison with the Rust runs the same program on fresh chunks.
 use std::io;
 use std::io::{Input, Write};
+use whole_tables::WholeTables;
 
 // The longest chunk that the input may have. It is longer than any that is read, so that some which are too long can be among them.
 const LONGEST: usize = 2 * reflection::CHUNK_LIMIT;
@@ -32,37 +33,23 @@ fn report_each<W: Write>(
     rt: &impl Input,
     out: &mut W,
     lent: &mut [u8; LONGEST],
-    bindings: &mut [u32; reflection::BINDING_TABLE],
-    buffers: &mut [u32; reflection::BUFFER_TABLE],
-    variables: &mut [u32; reflection::VARIABLE_TABLE],
-    types: &mut [u32; reflection::TYPE_TABLE],
+    tables: &mut WholeTables,
 ) -> io::Result<()> {
     let count = next_word(rt)?;
     for _ in 0..count {
         let Some(chunk) = next_chunk(rt, lent)? else {
             return stdout::put_bytes(out, b"bad input\n");
         };
-        report_lines::report(out, chunk, bindings, buffers, variables, types)?;
+        report_lines::report(out, chunk, tables)?;
         stdout::put_byte(out, b'\n')?;
     }
     Ok(())
 }
 
-// Prints the reports. The tables have document 01's whole room.
+// Prints the reports.
 pub fn print_reports<W: Write>(rt: &impl Input, out: &mut W) -> io::Result<()> {
     let mut chunk = [0u8; LONGEST];
-    let mut bindings = [0u32; reflection::BINDING_TABLE];
-    let mut buffers = [0u32; reflection::BUFFER_TABLE];
-    let mut variables = [0u32; reflection::VARIABLE_TABLE];
-    let mut types = [0u32; reflection::TYPE_TABLE];
+    let mut tables = WholeTables::new();
     stdout::put_bytes(out, b"reports\n")?;
-    report_each(
-        rt,
-        out,
-        &mut chunk,
-        &mut bindings,
-        &mut buffers,
-        &mut variables,
-        &mut types,
-    )
+    report_each(rt, out, &mut chunk, &mut tables)
 }

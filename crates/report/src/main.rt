@@ -1,26 +1,17 @@
 // Reads a chunk from standard input and prints what it holds, a line for each record (document 01, "The report program").
 #![tactic(auto)]
 
-use reflection::{BINDING_TABLE, BUFFER_TABLE, CHUNK_LIMIT, Refusal, TYPE_TABLE, VARIABLE_TABLE};
+use reflection::{CHUNK_LIMIT, Refusal};
 use std::io;
 use std::io::BufWriter;
 use stderr::Failure;
+use whole_tables::WholeTables;
 
-// Prints the report. Answers why the chunk was refused, where it was. The tables have document 01's whole room.
+// Prints the report. Answers why the chunk was refused, where it was.
 fn print(rt: &HostRuntime, chunk: &[u8]) -> io::Result<Option<Refusal>> {
-    let mut bindings = [0u32; BINDING_TABLE];
-    let mut buffers = [0u32; BUFFER_TABLE];
-    let mut variables = [0u32; VARIABLE_TABLE];
-    let mut types = [0u32; TYPE_TABLE];
+    let mut tables = WholeTables::new();
     let mut out = BufWriter::new(rt.alloc(), rt.stdout())?;
-    let refused = report_lines::report(
-        &mut out,
-        chunk,
-        &mut bindings,
-        &mut buffers,
-        &mut variables,
-        &mut types,
-    )?;
+    let refused = report_lines::report(&mut out, chunk, &mut tables)?;
     stdout::flush(&mut out)?;
     Ok(refused)
 }

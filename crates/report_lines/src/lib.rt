@@ -2,29 +2,38 @@
 // report has no limit.
 #![tactic(auto)]
 
-use reflection::{BINDING_TABLE, BUFFER_TABLE, Refusal, TYPE_TABLE, VARIABLE_TABLE};
+use reflection::{Refusal, Texts};
 use std::io;
 use std::io::Write;
+use tables::Reflection;
+use whole_tables::WholeTables;
 
 mod chunk_lines;
 mod lines;
 
-// Prints what the chunk reads as, or why it was refused. Answers why the chunk was refused, where it was. The tables have document 01's whole room.
+// A reflection that is reported, the text that holds its names, and where its lines go.
+#[derive(Drop)]
+struct Reporter<'a, W: Write> {
+    out: &'a mut W,
+    texts: Texts<'a>,
+    r: Reflection<'a>,
+}
+
+// Prints what the chunk reads as, or why it was refused. Answers why the chunk was refused, where it was.
 pub fn report<W: Write>(
     out: &mut W,
     chunk: &[u8],
-    bindings: &mut [u32; BINDING_TABLE],
-    buffers: &mut [u32; BUFFER_TABLE],
-    variables: &mut [u32; VARIABLE_TABLE],
-    types: &mut [u32; TYPE_TABLE],
+    tables: &mut WholeTables,
 ) -> io::Result<Option<Refusal>> {
-    match read::parse_rdef(chunk, bindings, buffers, variables, types) {
+    match tables.read(chunk) {
         Err(refusal) => {
             stdout::put_refused(out, refusal)?;
             Ok(Some(refusal))
         }
         Ok(def) => {
-            chunk_lines::all_lines(out, chunk, def, bindings, buffers, variables, types)?;
+            let texts = Texts { chunk, edits: &[] };
+            let r = tables.reflection(def);
+            Reporter { out, texts, r }.all_lines()?;
             Ok(None)
         }
     }

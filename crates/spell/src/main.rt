@@ -2,6 +2,7 @@
 // "Spelling and listing"). A line feed ends a line, which the last line may lack.
 #![tactic(auto)]
 
+use answer_lines::Answers;
 use reflection::Refusal;
 use spelling_parse::TypeSpelling;
 use std::io;
@@ -52,79 +53,72 @@ impl Line {
     }
 }
 
-// Answers the line, after which the next one begins.
-fn answer<W: Write>(out: &mut W, refused: &mut Option<Refusal>, line: &mut Line) -> io::Result<()> {
-    let spelled = line.spelled();
-    line.held = Some(0);
-    match spelled {
-        Ok(t) => put_numbers(out, t),
-        Err(refusal) => answer_lines::put_refused(out, refused, refusal),
-    }
+// The text that is being read, and what the texts before it were answered.
+#[derive(Drop)]
+struct Speller<W> {
+    line: Line,
+    answers: Answers<W>,
 }
 
-// Answers the lines that end in a block, which goes on with the line.
-fn answer_block<W: Write>(
-    out: &mut W,
-    refused: &mut Option<Refusal>,
-    line: &mut Line,
-    block: &[u8],
-) -> io::Result<()> {
-    for b in block {
-        if *b == b'\n' {
-            answer(out, refused, line)?;
-        } else {
-            line.keep(*b);
+impl<W: Write> Speller<W> {
+    // Answers the line, after which the next one begins.
+    fn answer(&mut self) -> io::Result<()> {
+        let spelled = self.line.spelled();
+        self.line.held = Some(0);
+        match spelled {
+            Ok(t) => put_numbers(&mut self.answers.out, t),
+            Err(refusal) => self.answers.put_refused(refusal),
         }
     }
-    Ok(())
-}
 
-// Reads once, and answers the lines that end there. False where the input has ended.
-fn answer_some<W: Write>(
-    rt: &HostRuntime,
-    out: &mut W,
-    refused: &mut Option<Refusal>,
-    line: &mut Line,
-) -> Result<bool, Failure> {
-    let mut block = [0u8; BLOCK];
-    let n = input::standard_some(rt, &mut block).map_err(Failure::Input)?;
-    answer_block(out, refused, line, &block[..n]).map_err(Failure::Output)?;
-    stdout::flush(out).map_err(Failure::Output)?;
-    Ok(0 < n)
-}
-
-// Answers every line. A proved loop has to end, and nothing says that the input does, so it counts its turns: to a number that no run uses up.
-fn answer_all<W: Write>(
-    rt: &HostRuntime,
-    out: &mut W,
-    refused: &mut Option<Refusal>,
-    line: &mut Line,
-) -> Result<(), Failure> {
-    for _ in 0..u64::MAX {
-        if !answer_some(rt, out, refused, line)? {
-            break;
+    // Answers the lines that end in a block, which goes on with the line.
+    fn answer_block(&mut self, block: &[u8]) -> io::Result<()> {
+        for b in block {
+            if *b == b'\n' {
+                self.answer()?;
+            } else {
+                self.line.keep(*b);
+            }
         }
+        Ok(())
     }
-    if line.held != Some(0) {
-        answer(out, refused, line).map_err(Failure::Output)?;
-    }
-    stdout::flush(out).map_err(Failure::Output)
-}
 
-// `answer_all` to standard output.
-fn spell(rt: &HostRuntime, refused: &mut Option<Refusal>) -> Result<(), Failure> {
-    let mut line = Line {
-        bytes: [0; LONGEST],
-        held: Some(0),
-    };
-    let mut out = BufWriter::new(rt.alloc(), rt.stdout()).map_err(Failure::Output)?;
-    answer_all(rt, &mut out, refused, &mut line)
+    // Reads once, and answers the lines that end there. False where the input has ended.
+    fn answer_some(&mut self, rt: &HostRuntime) -> Result<bool, Failure> {
+        let mut block = [0u8; BLOCK];
+        let n = input::standard_some(rt, &mut block).map_err(Failure::Input)?;
+        self.answer_block(&block[..n]).map_err(Failure::Output)?;
+        stdout::flush(&mut self.answers.out).map_err(Failure::Output)?;
+        Ok(0 < n)
+    }
+
+    // Answers every line. A proved loop has to end, and nothing says that the input does, so it counts its turns: to a number that no run uses up.
+    fn answer_all(&mut self, rt: &HostRuntime) -> Result<(), Failure> {
+        for _ in 0..u64::MAX {
+            if !self.answer_some(rt)? {
+                break;
+            }
+        }
+        if self.line.held != Some(0) {
+            self.answer().map_err(Failure::Output)?;
+        }
+        stdout::flush(&mut self.answers.out).map_err(Failure::Output)
+    }
 }
 
 // The first text that was refused is said even where a read or a write failed.
 fn main(rt: HostRuntime) -> Result<(), Failure> {
-    let mut refused = None;
-    let answered = spell(&rt, &mut refused);
-    stderr::refused(&rt, b"", refused)?;
+    let mut speller = Speller {
+        line: Line {
+            bytes: [0; LONGEST],
+            held: Some(0),
+        },
+        answers: Answers {
+            out: BufWriter::new(rt.alloc(), rt.stdout()).map_err(Failure::Output)?,
+            refused: None,
+        },
+    };
+    let answered = speller.answer_all(&rt);
+    stderr::refused(&rt, b"", speller.answers.refused)?;
     answered
 }

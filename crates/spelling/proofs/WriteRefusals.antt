@@ -1,36 +1,37 @@
 -- The definitions of `hlsl_type_name` and of the declaration line, by the tests in their order: not readable, no spelling, then the bytes.
-use Rattle.std.specs.Option.{IfSome, ok_or}
-use Rattle.std.specs.Result.{IfOk}
+use Rattle.std.specs.Option.{ok_or}
 use Rattle.std.specs.Prelude.{Option, Some, None, Ok, Err}
 use Rattle.reflection.specs.declared.refusal.Refusal.TheVariants.{NotReadable, NoSpelling}
 use mathlib.Core.Path.{◌≡◌, refl, ap, ◌∙◌}
 use mathlib.Core.Bool.{Bool, true, false, ◌&&◌, cond}
 use mathlib.Core.List.{List, [], ◌∷◌, ◌++◌}
-use Prim.Native.Nat.{ℕ, ◌≤◌}
-use native.Mathlib.Omega.{arith}
+use Prim.Native.Nat.{ℕ}
 use Rattle.reflection.specs.Outcome.{Outcome}
 use Rattle.reflection.specs.declared.Text.{Text}
 use Rattle.reflection.specs.declared.TypeDesc.{TypeDesc}
 use Rattle.reflection.specs.Texts.{text_bytes}
+use Rattle.reflection.specs.Fits.{fits_u16}
 use Rattle.text_output.specs.Printable.{printable}
+use Rattle.text_output.specs.declared.output.Output.{Output}
 use Rattle.spelling.specs.Parts.{MayPut, Puts}
 use Rattle.spelling.specs.Spelling.{fields_fit, type_spelling, is_spelled, bytes_of, spelled_or_refused, declared, type_name, declaration}
 use Rattle.spelling.proofs.WritePieces.{spelled_bytes}
 
 -- what was put for a text that may not be there is what was put for the text or the refusal
-module _ {outcome : Outcome (List ℕ)} (text : Option (List ℕ)) (before after : List ℕ) (is : outcome ≡ spelled_or_refused text) where
-  pub put_or_refused : (end : Option ℕ) → MayPut text before 0 after end → Puts outcome before after (ok_or end NoSpelling)
-  put_or_refused (Some end) put = (put.0, (is ∙ ap spelled_or_refused put.1.0, put.1.1))
-  put_or_refused None none = is ∙ ap spelled_or_refused none
-
-pub near_or_refused : (a b : ℕ) (end : Option ℕ) → IfSome end (λ r. r ≤ a) → a ≤ b → IfOk (ok_or end NoSpelling) (λ r. r ≤ b)
-near_or_refused a b (Some end) near h = omega arith
-near_or_refused a b None near h = tt
+module _ {outcome : Outcome (List ℕ)} (text : Option (List ℕ)) (before after : Output) (is : outcome ≡ spelled_or_refused text) where
+  pub put_or_refused : (put : Option (Unit {0})) → MayPut text before after put → Puts outcome before after (ok_or put NoSpelling)
+  put_or_refused (Some done) put = (put.0, (is ∙ ap spelled_or_refused put.1.0, put.1.1))
+  put_or_refused None none = (is ∙ ap spelled_or_refused none.0, none.1)
 
 -- a declaration line by the spelling of its type
 abbrev pub declared_line : List ℕ → Outcome (List ℕ) → Outcome (List ℕ)
 declared_line name (Ok type) = Ok (type ++ (32 ∷ (name ++ (59 ∷ []))))
 declared_line name (Err why) = Err why
+
+-- the fields of 16 bits, as `reflection` tests them
+pub same_fit : (t : TypeDesc) → fields_fit t ≡ fits_u16 t
+unfolding fields_fit fits_u16
+same_fit t = refl
 
 module _ (chunk edits : List ℕ) (t : TypeDesc) where
   pub type_name_unprintable : printable chunk edits t.name ≡ false → type_name chunk edits t ≡ Err NotReadable

@@ -1,35 +1,20 @@
 // The spelling of a type, and the declaration line of a variable, written to a lent output.
-ghost use Rattle.std.specs.Prelude.{◌≡◌, [], ◌∷◌, ◌++◌, ◌+◌, ◌≤◌, ◌^◌, List, ℕ, length, IfSome, IfOk};
-ghost use Rattle.words.specs.Splice.{Put};
+ghost use Rattle.std.specs.Prelude.{◌≡◌, [], ◌∷◌, ◌++◌, ◌+◌, ◌≤◌, ◌^◌, List, ℕ, length};
 ghost use Rattle.codes.specs.Variable.{base_type_row};
 ghost use Rattle.reflection.specs.Outcome.{Outcome};
 ghost use Rattle.text_output.specs.Digits.{decimal};
 ghost use Rattle.text_output.specs.Written.{Answers};
 ghost use Rattle.text_output.specs.Cursor.{farthest};
+ghost use Rattle.text_output.specs.Output.{Appended};
+ghost use Rattle.text_output.specs.declared.output.Output.{Output};
 ghost use Rattle.spelling.specs.Names.{base_names, name_in};
-ghost use Rattle.spelling.specs.Spelling.{fields_fit, by_name, bytes_of, dimensions, array_suffix, type_spelling};
+ghost use Rattle.spelling.specs.Spelling.{by_name, bytes_of, dimensions, array_suffix, type_spelling};
 ghost use Rattle.spelling.specs.Spelling.{type_name, declaration};
 ghost use Rattle.spelling.specs.Parts.{MayPut, Puts};
 
 use codes::{BaseType, VariableClass};
-use reflection::{Refusal, Text, TypeDesc, U16_LIMIT};
-use text_output::{put_byte, put_bytes, put_decimal};
-
-// Whether the 16-bit fields fit 16 bits.
-fn fields_fit(t: TypeDesc) -> bool
-    ensures { result ≡ fields_fit t }
-{
-    [
-        t.class,
-        t.var_type,
-        t.rows,
-        t.columns,
-        t.elements,
-        t.member_count,
-    ]
-    .iter()
-    .all(|x| *x < U16_LIMIT)
-}
+use reflection::{Refusal, Text, Texts, TypeDesc};
+use text_output::Output;
 
 // Whether a type goes by its own name.
 #[tactic(auto, unfolding(crate::specs::Spelling::by_name))]
@@ -53,28 +38,33 @@ fn base_name(base: BaseType) -> &'static [u8]
 }
 
 // Writes rows, `x` and columns.
-fn put_matrix(out: &mut [u8], at: usize, rows: u32, columns: u32) -> usize
-    requires { at + 21 ≤ farthest }
-    ensures text { Put out.old at (decimal rows ++ (120 ∷ decimal columns)) out.new result }
-    ensures near { result ≤ at + 21 }
+fn put_matrix(out: &mut Output<'_>, rows: u32, columns: u32)
+    requires { out.old.at + 21 ≤ farthest }
+    ensures text { Appended out.old out.new (decimal rows ++ (120 ∷ decimal columns)) }
+    ensures near { out.new.at ≤ out.old.at + 21 }
 {
-    let after_rows = put_decimal(out, at, rows);
-    let after_x = put_byte(out, after_rows, b'x');
-    put_decimal(out, after_x, columns)
+    out.put_decimal(rows);
+    out.put_byte(b'x');
+    out.put_decimal(columns);
 }
 
 // Writes what follows the base: nothing for a scalar, the columns of a vector, rows, `x` and columns of a matrix. None for any other class.
-fn put_dimensions(out: &mut [u8], at: usize, class: u32, rows: u32, columns: u32) -> Option<usize>
-    requires { at + 21 ≤ farthest }
-    ensures text { MayPut (dimensions class rows columns) out.old at out.new result }
-    ensures near { IfSome result (λ end. end ≤ at + 21) }
+fn put_dimensions(out: &mut Output<'_>, t: TypeDesc) -> Option<()>
+    requires { out.old.at + 21 ≤ farthest }
+    ensures text { MayPut (dimensions t.class t.rows t.columns) out.old out.new result }
+    ensures near { out.new.at ≤ out.old.at + 21 }
+    ensures same { out.new.bytes.ghost_name ≡ out.old.bytes.ghost_name }
 {
-    let known = VariableClass::try_from(class).ok()?;
+    let known = VariableClass::try_from(t.class).ok()?;
     match known {
-        VariableClass::Scalar => Some(at),
-        VariableClass::Vector => Some(put_decimal(out, at, columns)),
+        VariableClass::Scalar => Some(()),
+        VariableClass::Vector => {
+            out.put_decimal(t.columns);
+            Some(())
+        }
         VariableClass::MatrixRows | VariableClass::MatrixColumns => {
-            Some(put_matrix(out, at, rows, columns))
+            put_matrix(out, t.rows, t.columns);
+            Some(())
         }
         VariableClass::Object
         | VariableClass::Struct
@@ -84,102 +74,105 @@ fn put_dimensions(out: &mut [u8], at: usize, class: u32, rows: u32, columns: u32
 }
 
 // Writes `[N]` where there are elements.
-fn put_suffix(out: &mut [u8], at: usize, elements: u32) -> usize
-    requires { at + 12 ≤ farthest }
-    ensures text { Put out.old at (array_suffix elements) out.new result }
-    ensures near { result ≤ at + 12 }
+fn put_suffix(out: &mut Output<'_>, elements: u32)
+    requires { out.old.at + 12 ≤ farthest }
+    ensures text { Appended out.old out.new (array_suffix elements) }
+    ensures near { out.new.at ≤ out.old.at + 12 }
 {
-    if elements == 0 {
-        return at;
+    if elements != 0 {
+        out.put_byte(b'[');
+        out.put_decimal(elements);
+        out.put_byte(b']');
     }
-    let opened = put_byte(out, at, b'[');
-    let counted = put_decimal(out, opened, elements);
-    put_byte(out, counted, b']')
 }
 
 // Writes the spelling of a type with that name; None where it has none.
-fn put_spelling(out: &mut [u8], at: usize, name: &[u8], t: TypeDesc) -> Option<usize>
-    requires { at + 39 ≤ farthest }
-    ensures text { MayPut (type_spelling name.now t) out.old at out.new result }
-    ensures near { IfSome result (λ end. end ≤ at + 39 + length name.now) }
+fn put_spelling(out: &mut Output<'_>, name: &[u8], t: TypeDesc) -> Option<()>
+    requires { out.old.at + 39 ≤ farthest }
+    ensures text { MayPut (type_spelling name.now t) out.old out.new result }
+    ensures near { out.new.at ≤ out.old.at + 39 + length name.now }
+    ensures same { out.new.bytes.ghost_name ≡ out.old.bytes.ghost_name }
 {
     if by_name(t) {
         if name.is_empty() {
             return None;
         }
-        return Some(put_bytes(out, at, name));
+        out.put_bytes(name);
+        return Some(());
     }
     let known = BaseType::try_from(t.var_type).ok()?;
-    let base = put_bytes(out, at, base_name(known));
-    let core = put_dimensions(out, base, t.class, t.rows, t.columns)?;
-    Some(put_suffix(out, core, t.elements))
+    out.put_bytes(base_name(known));
+    put_dimensions(out, t)?;
+    put_suffix(out, t.elements);
+    Some(())
 }
 
 // Writes the spelling of a type from the output's start, or says why it is not spelled.
-fn write_type(chunk: &[u8], edits: &[u8], t: TypeDesc, out: &mut [u8]) -> Result<usize, Refusal>
-    ensures text { Puts (type_name chunk.now edits.now t) out.old out.new result }
-    ensures near { IfOk result (λ end. end ≤ 2 ^ 33) }
+fn write_type(texts: Texts<'_>, t: TypeDesc, out: &mut Output<'_>) -> Result<(), Refusal>
+    requires { out.old.at ≡ 0 }
+    ensures text { Puts (type_name texts.entry.chunk.now texts.entry.edits.now t) out.old out.new result }
+    ensures near { out.new.at ≤ 2 ^ 33 }
+    ensures same { out.new.bytes.ghost_name ≡ out.old.bytes.ghost_name }
 {
-    if !text_output::printable(chunk, edits, t.name) || !fields_fit(t) {
+    if !text_output::printable(texts, t.name) || !t.fits_u16() {
         return Err(Refusal::NotReadable);
     }
-    let name = reflection::name_part(chunk, edits, t.name);
-    put_spelling(out, 0, name, t).ok_or(Refusal::NoSpelling)
+    let name = texts.name_part(t.name);
+    put_spelling(out, name, t).ok_or(Refusal::NoSpelling)
 }
 
 // Writes the declaration of a variable from the output's start: the spelling of its type, a space, its name and a semicolon. Or says why not.
 fn write_declaration(
-    chunk: &[u8],
-    edits: &[u8],
+    texts: Texts<'_>,
     t: TypeDesc,
     name: Text,
-    out: &mut [u8],
-) -> Result<usize, Refusal>
-    ensures { Puts (declaration chunk.now edits.now t name) out.old out.new result }
+    out: &mut Output<'_>,
+) -> Result<(), Refusal>
+    requires { out.old.at ≡ 0 }
+    ensures text { Puts (declaration texts.entry.chunk.now texts.entry.edits.now t name) out.old out.new result }
+    ensures same { out.new.bytes.ghost_name ≡ out.old.bytes.ghost_name }
 {
-    if !text_output::printable(chunk, edits, name) {
+    if !text_output::printable(texts, name) {
         return Err(Refusal::NotReadable);
     }
-    let spelled = write_type(chunk, edits, t, out)?;
-    let spaced = put_byte(out, spelled, b' ');
-    let named = put_bytes(out, spaced, reflection::name_part(chunk, edits, name));
-    Ok(put_byte(out, named, b';'))
+    write_type(texts, t, out)?;
+    out.put_byte(b' ');
+    out.put_bytes(texts.name_part(name));
+    out.put_byte(b';');
+    Ok(())
 }
 
 // The answer by what was written: its length, where all of it fitted; a refusal zeroes the output.
-fn answer(out: &mut [u8], written: Result<usize, Refusal>) -> Result<usize, Refusal>
-    ensures { (outcome : Outcome (List ℕ)) (lent : List ℕ) → length out.old ≡ length lent → Puts outcome lent out.old written
-        → Answers outcome lent out.new result }
+fn answer(out: &mut Output<'_>, written: Result<(), Refusal>) -> Result<usize, Refusal>
+    ensures answer { (outcome : Outcome (List ℕ)) (lent : Output) → lent.at ≡ 0 → Puts outcome lent out.old written
+        → Answers outcome lent.bytes.now out.new.bytes.now result }
+    ensures same { out.new.bytes.ghost_name ≡ out.old.bytes.ghost_name }
 {
     match written {
-        Ok(at) => text_output::finish(out, at),
-        Err(refusal) => text_output::refuse(out, refusal),
+        Ok(()) => out.finish(),
+        Err(refusal) => text_output::refuse(out.bytes, refusal),
     }
 }
 
 // `hlsl_type_name`: the spelling of a type.
-pub fn hlsl_type_name(
-    chunk: &[u8],
-    edits: &[u8],
-    t: TypeDesc,
-    out: &mut [u8],
-) -> Result<usize, Refusal>
-    ensures { Answers (type_name chunk.now edits.now t) out.old out.new result }
+pub fn hlsl_type_name(texts: Texts<'_>, t: TypeDesc, out: &mut [u8]) -> Result<usize, Refusal>
+    ensures { Answers (type_name texts.entry.chunk.now texts.entry.edits.now t) out.old out.new result }
 {
-    let written = write_type(chunk, edits, t, out);
-    answer(out, written)
+    let mut line = Output { bytes: out, at: 0 };
+    let written = write_type(texts, t, &mut line);
+    answer(&mut line, written)
 }
 
 // The declaration line of a variable with that type and name.
 pub fn declaration(
-    chunk: &[u8],
-    edits: &[u8],
+    texts: Texts<'_>,
     t: TypeDesc,
     name: Text,
     out: &mut [u8],
 ) -> Result<usize, Refusal>
-    ensures { Answers (declaration chunk.now edits.now t name) out.old out.new result }
+    ensures { Answers (declaration texts.entry.chunk.now texts.entry.edits.now t name) out.old out.new result }
 {
-    let written = write_declaration(chunk, edits, t, name, out);
-    answer(out, written)
+    let mut line = Output { bytes: out, at: 0 };
+    let written = write_declaration(texts, t, name, &mut line);
+    answer(&mut line, written)
 }

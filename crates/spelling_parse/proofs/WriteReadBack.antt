@@ -18,7 +18,7 @@ use Rattle.text.proofs.Bools.{and-true}
 use Rattle.reflection.specs.Limits.{u16_limit}
 use Rattle.reflection.specs.declared.TypeDesc.{TypeDesc}
 use Rattle.reflection.specs.Texts.{in_chunk, text_bytes}
-use Rattle.reflection.proofs.Texts.{place_in_chunk, bytes_in_chunk}
+use Rattle.reflection.proofs.TextParts.{place_in_chunk, bytes_in_chunk}
 use Rattle.text_output.specs.Digits.{decimal}
 use Rattle.text_output.specs.Printable.{printable}
 use Rattle.spelling_parse.specs.declared.TypeSpelling.{TypeSpelling}

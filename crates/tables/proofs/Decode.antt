@@ -20,7 +20,7 @@ use Rattle.reflection.specs.Reflection.{TypeDesc, type_desc, CBufferVariable, CB
 use Rattle.reflection.specs.Reflection.{identifier_of, stride_of, slots_of, major_of}
 use Rattle.reflection.specs.Texts.{in_chunk}
 use Rattle.tables.specs.Nodes.{Node, nodes_of, type_levels}
-use Rattle.tables.specs.Records.{record_word, joined}
+use Rattle.tables.specs.Records.{within, record_word, joined}
 use Rattle.tables.specs.Records.{binding_width, binding_words_in_table, binding_of, binding_at}
 use Rattle.tables.specs.Records.{buffer_width, buffer_words_in_table, buffer_of, buffer_at}
 use Rattle.tables.specs.Records.{variable_width, variable_words_in_table, variable_of, variable_at}
@@ -32,7 +32,6 @@ use Rattle.tables.specs.Decode.{guard, records_from, first_records, binding_from
 use Rattle.tables.specs.Decode.{variables_from, buffers_from, decode}
 use Rattle.reflection.specs.Rd11.{rd11_from_header}
 use Rattle.tables.proofs.Levels.{TypesFit}
-use Rattle.tables.proofs.Rows.{within}
 use Rattle.tables.proofs.Joined.{holds_joined, words_joined}
 use Rattle.tables.proofs.Nodes.{then_some, type_from}
 

@@ -7,10 +7,10 @@ use native.Mathlib.Nat.{zero-mul, suc-mul, le-div_iff_mul-le}
 use native.Mathlib.Omega.{arith}
 use lib.ListN.{length, get_or, replicate, length-append, get_or-append}
 use lib.Seq.{get_or-append-add}
-use Rattle.tables.specs.Records.{record_word, joined}
+use Rattle.tables.specs.Records.{within, record_word, joined}
 use Rattle.tables.specs.Tables.{padded}
 use Rattle.tables.proofs.Records.{word_inside}
-use Rattle.tables.proofs.Rows.{within, same_words}
+use Rattle.tables.proofs.Rows.{same_words}
 
 module _ {A : Type 0} (width : ℕ) (words : A → List ℕ) (whole : (x : A) → length (words x) ≡ width) where
   pub length_joined : (xs : List A) → length (joined words xs) ≡ length xs * width

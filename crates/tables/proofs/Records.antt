@@ -2,18 +2,19 @@
 -- One law over the width and the words serves the four tables: a record that lies whole in the table begins at i * width, and two records share no word.
 use mathlib.Core.Path.{◌≡◌, sym, ap, ◌∙◌}
 use mathlib.Core.List.{List}
-use Prim.Native.Nat.{ℕ, ◌+◌, ◌*◌, ◌/◌, ◌≤◌, ◌<◌}
-use native.Mathlib.Nat.{mul-le-mul_right, div-mul-le_self, suc-mul, zero-add}
+use Prim.Native.Nat.{ℕ, zero, suc, ◌+◌, ◌*◌, ◌/◌, ◌≤◌, ◌<◌}
+use native.Mathlib.Nat.{mul-le-mul_right, div-mul-le_self, suc-mul, zero-mul}
 use native.Mathlib.Decide.{dec_lt}
 use native.Mathlib.Omega.{arith}
 use borrow.Author.Tests.{lt-ltb, le-ltb}
-use lib.ListN.{length, get_or, take, drop, length-drop}
+use lib.ListN.{length, get_or, take, drop, replicate, length-drop, length-replicate, get_or-replicate, get_or-eq_default}
 use lib.Seq.{length-take-le, get_or-take, get_or-drop}
+use Rattle.std.proofs.lemmas.List.{drop-drop}
+use Rattle.std.specs.Simd.{first_chunks}
 use Rattle.words.specs.Splice.{splice}
 use Rattle.words.proofs.Splice.{length_splice}
-use Rattle.words.proofs.Splice.{splice_puts}
 use Rattle.words.proofs.Records.{record_written, other_record_kept}
-use Rattle.tables.specs.Records.{holds_record, put_record, record_word}
+use Rattle.tables.specs.Records.{holds_record, put_record, record_word, within}
 
 -- a record that lies whole in the table ends no later than the table
 pub record_inside : (width long i : ℕ) → i < long / width → i * width + width ≤ long
@@ -28,14 +29,6 @@ module _ (width : ℕ) (t : List ℕ) (i : ℕ) (words : List ℕ) where
   pub put_outside : length t / width ≤ i → put_record width t i words ≡ t
   unfolding put_record holds_record
   put_outside h = rw (put_record, holds_record, le-ltb i (length t / width) h)
-
-  -- the table keeps its length
-  pub length-put : length (put_record width t i words) ≡ length t
-  length-put =
-      elim (dec_lt i (length t / width)) [
-        | yes h ↦ ap length (put_inside h) ∙ length_splice t (i * width) words
-        | no h ↦ ap length (put_outside (omega arith))
-      ]
 
 -- a word of a record inside, and of one outside
 module _ (width : ℕ) (t : List ℕ) (i k : ℕ) where
@@ -69,14 +62,39 @@ module _ (width : ℕ) (t : List ℕ) (i : ℕ) (words : List ℕ) (whole : leng
         | no outside ↦ ap (λ (w : List ℕ). record_word width w j k) (put_outside width t i words (omega arith))
       ]
 
--- record i copied to the front of a row of words
-pub word_of_row : (width : ℕ) (t : List ℕ) (i : ℕ) (row : List ℕ) (k : ℕ) → width ≤ length row → i < length t / width → k < width
-    → get_or (splice row 0 (take width (drop (i * width) t))) k 0 ≡ record_word width t i k
-word_of_row width t i row k room inside h =
-    let ends : i * width + width ≤ length t = record_inside width (length t) i inside in
-    let whole : length (take width (drop (i * width) t)) ≡ width = length-take-le width (drop (i * width) t) (omega (arith, length-drop (i * width) t)) in
-    ap (λ (n : ℕ). get_or (splice row 0 (take width (drop (i * width) t))) n 0) (sym (zero-add k))
-    ∙ splice_puts row 0 (take width (drop (i * width) t)) (omega arith) k 0 (omega arith)
-    ∙ get_or-take width (drop (i * width) t) k 0 h
-    ∙ get_or-drop (i * width) t k 0
-    ∙ sym (word_inside width t i k inside)
+-- rows that are equal word for word
+pub same_row : (f g : ℕ → ℕ) → ((k : ℕ) → f k ≡ g k) → f ≡ g
+same_row f g e i k = e k i
+
+-- row i of a table's rows is the table's part of that width from i * width on
+pub row_of_table : (width n : ℕ) (t : List ℕ) (i : ℕ) (d : List ℕ) → i < n → get_or (first_chunks width n t) i d ≡ take width (drop (i * width) t)
+row_of_table width zero t i d h = absurd (omega arith)
+row_of_table width (suc n) t zero d h = ap (λ (at : ℕ). take width (drop at t)) (sym (zero-mul width))
+row_of_table width (suc n) t (suc i) d h =
+    row_of_table width n (drop width t) i d (omega arith)
+    ∙ ap (take width) (drop-drop (i * width) width t ∙ ap (λ (at : ℕ). drop at t) (omega (arith, suc-mul i width)))
+
+-- the words of that row, and of the row of zeros that stands for a record outside
+module _ (width : ℕ) (t : List ℕ) (i : ℕ) where
+  pub row_inside : (rows : List (List ℕ)) (row d : List ℕ) → rows ≡ first_chunks width (length t / width) t → row ≡ get_or rows i d
+      → i < length t / width → (k : ℕ) → get_or row k 0 ≡ within width (record_word width t i) k
+  row_inside rows row d are is inside k =
+      let ends : i * width + width ≤ length t = record_inside width (length t) i inside in
+      let part : row ≡ take width (drop (i * width) t) =
+      is ∙ ap (λ (r : List (List ℕ)). get_or r i d) are ∙ row_of_table width (length t / width) t i d inside
+      in
+      let whole : length row ≡ width =
+      ap length part ∙ length-take-le width (drop (i * width) t) (omega (arith, length-drop (i * width) t))
+      in
+      elim (dec_lt k width) [
+        | yes h ↦ rw (within, lt-ltb k width h) (ap (λ (w : List ℕ). get_or w k 0) part ∙ get_or-take width (drop (i * width) t) k 0 h
+            ∙ get_or-drop (i * width) t k 0 ∙ sym (word_inside width t i k inside))
+        | no h ↦ rw (within, le-ltb k width (omega arith)) (get_or-eq_default row 0 (omega arith))
+      ]
+
+  pub row_outside : length t / width ≤ i → (k : ℕ) → get_or (replicate width 0) k 0 ≡ within width (record_word width t i) k
+  row_outside past k =
+      elim (dec_lt k width) [
+        | yes h ↦ rw (within, lt-ltb k width h) (get_or-replicate width k 0 0 h ∙ sym (word_outside width t i k past))
+        | no h ↦ rw (within, le-ltb k width (omega arith)) (get_or-eq_default (replicate width 0) 0 (omega (arith, length-replicate {A = ℕ} width 0)))
+      ]

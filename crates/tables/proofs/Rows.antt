@@ -11,16 +11,12 @@ use Rattle.reflection.specs.declared.ResourceBinding.{ResourceBinding}
 use Rattle.reflection.specs.declared.CBufferDef.{CBufferDef}
 use Rattle.reflection.specs.declared.CBufferVariable.{CBufferVariable}
 use Rattle.reflection.specs.declared.TypeDesc.{TypeDesc}
-use Rattle.tables.specs.Records.{put_record, record_word}
+use Rattle.tables.specs.Records.{put_record, record_word, within}
 use Rattle.tables.specs.Records.{binding_width, binding_words_in_table, binding_of, binding_at}
 use Rattle.tables.specs.Records.{buffer_width, buffer_words_in_table, buffer_of, buffer_at}
 use Rattle.tables.specs.Records.{variable_width, variable_words_in_table, variable_of, variable_at}
 use Rattle.tables.specs.Records.{type_width, type_words_in_table, type_of, type_at}
 use Rattle.tables.proofs.Records.{record_put, record_put_other}
-
--- a record's words, 0 from its width on
-abbrev pub within : ℕ → (ℕ → ℕ) → ℕ → ℕ
-within width word k = elim (ltb k width) [ true ↦ word k | false ↦ 0 ]
 
 -- words that agree below the width give the same record
 pub same_words : (width : ℕ) (f g : ℕ → ℕ) → ((k : ℕ) → k < width → f k ≡ g k) → within width f ≡ within width g

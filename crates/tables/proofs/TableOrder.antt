@@ -7,7 +7,7 @@ use native.Mathlib.Omega.{arith}
 use Rattle.tables.specs.Nodes.{type_levels}
 use Rattle.tables.specs.Trees.{tree_at}
 use Rattle.tables.specs.TableReflection.{root_at, count_at, first_variable}
-use Rattle.tables.proofs.RecordLists.{rises, rises_below}
+use Rattle.tables.proofs.RecordLists.{rises_below}
 use Rattle.tables.proofs.Trees.{tree_up}
 
 pub root_next : (types : List ℕ) (variable : ℕ) → (tree_at types type_levels (root_at types variable)).next ≡ root_at types (variable + 1)
@@ -17,9 +17,6 @@ root_next types variable = ap (root_at types) (sym (add-one variable))
 root_up : (types : List ℕ) (variable : ℕ) → root_at types variable ≤ root_at types (suc variable)
 unfolding root_at
 root_up types variable = omega (arith, tree_up types type_levels (root_at types variable))
-
-pub root_rises : (types : List ℕ) (variable n : ℕ) → root_at types variable ≤ root_at types (variable + n)
-root_rises types = rises (root_at types) (root_up types)
 
 pub root_below : (types : List ℕ) (variable later : ℕ) → variable ≤ later → root_at types variable ≤ root_at types later
 root_below types = rises_below (root_at types) (root_up types)

@@ -4,3 +4,4 @@ pub mod Tables
 pub mod Decode
 pub mod Trees
 pub mod TableReflection
+pub mod Lent

@@ -49,6 +49,10 @@ put_record width t i words = elim (holds_record width (length t) i) [ true ↦ s
 unfoldable pub record_word : ℕ → List ℕ → ℕ → ℕ → ℕ
 record_word width t i k = elim (holds_record width (length t) i) [ true ↦ get_or t (i * width + k) 0 | false ↦ 0 ]
 
+-- A record's words, and 0 from its width on: what a row of that width holds.
+abbrev pub within : ℕ → (ℕ → ℕ) → ℕ → ℕ
+within width word k = elim (ltb k width) [ true ↦ word k | false ↦ 0 ]
+
 -- Record i of each table, by its words.
 abbrev pub text_at : (ℕ → ℕ) → ℕ → Text
 text_at word k = record { source = word k; place = word (k + 1); length = word (k + 2) }

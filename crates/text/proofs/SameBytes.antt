@@ -2,11 +2,9 @@
 use mathlib.Core.Path.{◌≡◌, refl, ap}
 use mathlib.Core.Bool.{Bool, true, false, ◌&&◌}
 use mathlib.Core.List.{List, [], ◌∷◌}
-use mathlib.Core.Logic.{◌↔◌}
-use Prim.Native.Nat.{ℕ, ◌<◌}
+use Prim.Native.Nat.{ℕ}
 use lib.Dec.{eqb}
-use lib.ListN.{length, get_or}
-use lib.Seq.{ext_get_or}
+use lib.ListN.{get_or}
 use Rattle.std.specs.Bool.{Decides}
 use Rattle.std.specs.Cmp.Lexicographic.{pointwise}
 use Rattle.std.proofs.Common.{rules}
@@ -27,19 +25,9 @@ equal_same_bytes xs ys = (same_bytes_decides xs ys).1
 pub same_bytes_refl : (xs : List ℕ) → same_bytes xs xs ≡ true
 same_bytes_refl xs = equal_same_bytes xs xs refl
 
-pub same_bytes_iff : (xs ys : List ℕ) → (same_bytes xs ys ≡ true) ↔ (xs ≡ ys)
-same_bytes_iff xs ys = (same_bytes_equal xs ys, equal_same_bytes xs ys)
-
--- lists that are not as long, or differ at an index, are not the same
-pub other_length : (xs ys : List ℕ) → (length xs ≡ length ys → ⊥) → same_bytes xs ys ≡ false
-other_length xs ys h = false_from_ne_true (same_bytes xs ys) (λ e. h (ap length (same_bytes_equal xs ys e)))
-
+-- lists that differ at an index are not the same
 pub other_byte : (xs ys : List ℕ) (i : ℕ) → (get_or xs i 0 ≡ get_or ys i 0 → ⊥) → same_bytes xs ys ≡ false
 other_byte xs ys i h = false_from_ne_true (same_bytes xs ys) (λ e. h (ap (λ (l : List ℕ). get_or l i 0) (same_bytes_equal xs ys e)))
-
--- lists as long that agree at every index are the same
-pub all_bytes : (xs ys : List ℕ) → length xs ≡ length ys → ((k : ℕ) → k < length xs → get_or xs k 0 ≡ get_or ys k 0) → same_bytes xs ys ≡ true
-all_bytes xs ys h e = equal_same_bytes xs ys (ext_get_or 0 xs ys h e)
 
 -- it is what `==` of slices says
 pub same_bytes_pointwise : (xs ys : List ℕ) → pointwise eqb xs ys ≡ same_bytes xs ys

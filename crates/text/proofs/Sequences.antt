@@ -12,7 +12,7 @@ use lib.ListN.{replicate}
 use Rattle.std.proofs.lemmas.Bool.{and_parts, agree_below, agree_below_at, cases_lt}
 use Rattle.text.specs.Utf8.{Span, Left, holds, tail, table37, begun, run, whole}
 use Rattle.text.specs.Sequences.{tails_after, lowest_after, highest_after}
-use Rattle.text.proofs.Runs.{run_ill_formed}
+use Rattle.text.proofs.Runs.{run_ill_formed, run_ascii_byte}
 
 -- `left` bytes of a sequence are still to come, the next of them from `low` to `high`
 abbrev pub awaits : ℕ → ℕ → ℕ → Left
@@ -159,3 +159,6 @@ module _ (b : ℕ) (bs : List ℕ) (low high : ℕ) where
       run_span left true (rw (le-leb low b l, le-leb b high e))
       ∙ ap (λ (l : Left). run l bs) (awaits_tails left)
       ∙ ap (λ (n : ℕ). run (awaits n 0x80 0xbf) bs) less
+
+-- the turns of the loops of `short_utf8_ok`
+pub ruleset turns = (run_ascii_byte, run_no_first, run_first, run_outside, run_tail)

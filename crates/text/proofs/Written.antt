@@ -8,7 +8,7 @@ use native.Mathlib.Omega.{arith}
 use borrow.Author.Tests.{not-true}
 use lib.Dec.{eqb}
 use lib.ListN.{length, take, drop, length-drop}
-use lib.Seq.{take-append_seam, drop-append_seam}
+use lib.Seq.{take-append_seam}
 use Rattle.std.specs.Prelude.{Option, Some, None}
 use Rattle.std.proofs.lemmas.Option.{same_Some}
 use Rattle.text.specs.declared.Span.{Span}
@@ -34,12 +34,6 @@ cstring_of_string s name after place is e f =
     cstring_ends s place (length name) true
     (ap (λ (l : List ℕ). until_nul l place 0) is ∙ until_nul_written name after place 0 e ∙ ap (λ (k : ℕ). Some (span place k)) (zero-add (length name)))
     (ap (λ (l : List ℕ). well_formed (take (length name) l)) is ∙ ap well_formed (take-append_seam name (0 ∷ after)) ∙ f)
-
--- in particular between any two lists
-pub cstring_written : (before name after : List ℕ) → without_nul name ≡ true → well_formed name ≡ true
-    → cstring_at (before ++ (name ++ (0 ∷ after))) (length before) ≡ Some (span (length before) (length name))
-cstring_written before name after e f =
-    cstring_of_string (before ++ (name ++ (0 ∷ after))) name after (length before) (drop-append_seam before (name ++ (0 ∷ after))) e f
 
 -- what was found is one thing: its place and its length are
 pub span_parts : {p k q n : ℕ} → Some (span p k) ≡ Some (span q n) → (p ≡ q) × (k ≡ n)

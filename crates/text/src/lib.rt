@@ -65,13 +65,14 @@ fn fits(p3: u8, p2: u8, p1: u8, b: u8) -> bool
     ensures { result ≡ fits p3 p2 p1 b }
 {
     let due = tail_due(p3, p2, p1);
-    let follows = (lowest_after(p1) <= b) & (b <= highest_after(p1));
-    let begins = (b < 0x80) | ((b >= 0xc2) & (b < 0xf5));
+    let follows = (lowest_after(p1)..=highest_after(p1)).contains(&b);
+    let begins = (b < 0x80) | (0xc2..=0xf4).contains(&b);
     if due { follows } else { begins }
 }
 
 // Whether bytes are well-formed UTF-8: sequence by sequence, which is quick where most bytes are below 0x80. Up to 8 bytes `from_utf8` of std takes
 // 1.1 to 1.6 times as long.
+#[tactic(auto, unfolding(crate::specs::Utf8::well_formed), using(crate::proofs::Sequences::turns))]
 fn short_utf8_ok(s: &[u8]) -> bool
     ensures { result ≡ well_formed s.now }
 {
@@ -100,6 +101,7 @@ fn short_utf8_ok(s: &[u8]) -> bool
 
 // The same, byte by byte with the three before each. No byte ends the loop, so that it is compiled to steps of sixteen bytes: `from_utf8` takes 1.6 to 6
 // times as long where not all bytes are below 0x80, and a loop over `array_windows` up to 1.8 times.
+#[tactic(auto, using(crate::proofs::Neighbours::fits_start, crate::proofs::Neighbours::fits_next))]
 fn long_utf8_ok(s: &[u8]) -> bool
     requires { 3 ≤ length s.now }
     ensures { result ≡ well_formed s.now }
@@ -124,6 +126,7 @@ pub fn utf8_ok(s: &[u8]) -> bool
 
 // The string at an offset, up to its NUL. Bytes below 0x80 are well-formed as they are, so that most strings need no second pass: `position` and then
 // a test of the bytes take 1.1 to 1.8 times as long up to 24 bytes.
+#[tactic(auto, using(crate::proofs::Strings::until_nul_more, crate::proofs::Strings::string_nowhere))]
 pub fn cstring_at(s: &[u8], at: usize) -> Option<Span>
     ensures { (result ≡ cstring_at s.now at) × FoundWithin (length s.now) result }
 {

@@ -2,3 +2,4 @@ pub mod Digits
 pub mod Fitting
 pub mod NameLength
 pub mod Lines
+pub mod Appended

@@ -7,7 +7,7 @@ use native.Mathlib.Omega.{arith}
 use lib.ListN.{length}
 use Rattle.reflection.specs.declared.Text.{Text}
 use Rattle.reflection.specs.Texts.{in_place, text_bytes}
-use Rattle.reflection.proofs.Texts.{length_bytes, no_bytes}
+use Rattle.reflection.proofs.TextParts.{length_bytes, no_bytes}
 
 pub name_at_most : (chunk edits : List ℕ) (name : Text) → length (text_bytes chunk edits name) ≤ name.length
 name_at_most chunk edits name = by_place (in_place chunk edits name) refl

@@ -3,3 +3,4 @@ pub mod Cursor
 pub mod Digits
 pub mod Ascii
 pub mod Printable
+pub mod Output

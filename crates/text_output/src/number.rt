@@ -1,10 +1,10 @@
 // Numbers as text.
 ghost use Rattle.std.specs.Prelude.{◌≡◌, [], ◌+◌, ◌≤◌, ◌<◌, length, drop};
-ghost use Rattle.words.specs.Splice.{Put};
 ghost use Rattle.text_output.specs.Cursor.{farthest};
 ghost use Rattle.text_output.specs.Digits.{digits_before, hex_digit, decimal, hex};
+ghost use Rattle.text_output.specs.Output.{Appended};
 
-use crate::put_bytes;
+use crate::Output;
 
 // A digit below 16.
 fn digit(n: u32) -> u8
@@ -36,36 +36,41 @@ fn fill_digits(digits: &mut [u8], n: u32, base: u32) -> usize
     0
 }
 
-// Writes n in a base in which it has at most N digits; the answer is the cursor after it.
-fn put_digits<const N: usize>(out: &mut [u8], at: usize, n: u32, base: u32) -> usize
-    requires place { at ≤ farthest }
-    requires base { (1 < base) × (base ≤ 16) }
-    requires room { N ≤ 10 }
-    ensures text { Put out.old at (digits_before hex_digit base N n []) out.new result }
-    ensures near { result ≤ at + N }
-{
-    let mut room = [0u8; N];
-    let digits = &mut room[..];
-    let start = fill_digits(digits, n, base);
-    put_bytes(out, at, &digits[start..])
-}
+impl Output<'_> {
+    // Writes n in a base in which it has at most N digits.
+    #[inline]
+    fn put_digits<const N: usize>(&mut self, n: u32, base: u32)
+        requires place { self.old.at ≤ farthest }
+        requires base { (1 < base) × (base ≤ 16) }
+        requires room { N ≤ 10 }
+        ensures text { Appended self.old self.new (digits_before hex_digit base N n []) }
+        ensures near { self.new.at ≤ self.old.at + N }
+    {
+        let mut room = [0u8; N];
+        let digits = &mut room[..];
+        let start = fill_digits(digits, n, base);
+        self.put_bytes(&digits[start..]);
+    }
 
-// Writes n in decimal; the answer is the cursor after it.
-#[tactic(auto, using(crate::proofs::Digits::filled_decimal))]
-pub fn put_decimal(out: &mut [u8], at: usize, n: u32) -> usize
-    requires { at ≤ farthest }
-    ensures text { Put out.old at (decimal n) out.new result }
-    ensures near { result ≤ at + 10 }
-{
-    put_digits::<10>(out, at, n, 10)
-}
+    // Writes n in decimal.
+    #[inline]
+    #[tactic(auto, using(crate::proofs::Digits::filled_decimal))]
+    pub fn put_decimal(&mut self, n: u32)
+        requires { self.old.at ≤ farthest }
+        ensures text { Appended self.old self.new (decimal n) }
+        ensures near { self.new.at ≤ self.old.at + 10 }
+    {
+        self.put_digits::<10>(n, 10);
+    }
 
-// Writes n in lower-case hex; the answer is the cursor after it.
-#[tactic(auto, using(crate::proofs::Digits::filled_hex))]
-pub fn put_hex(out: &mut [u8], at: usize, n: u32) -> usize
-    requires { at ≤ farthest }
-    ensures text { Put out.old at (hex n) out.new result }
-    ensures near { result ≤ at + 8 }
-{
-    put_digits::<8>(out, at, n, 16)
+    // Writes n in lower-case hex.
+    #[inline]
+    #[tactic(auto, using(crate::proofs::Digits::filled_hex))]
+    pub fn put_hex(&mut self, n: u32)
+        requires { self.old.at ≤ farthest }
+        ensures text { Appended self.old self.new (hex n) }
+        ensures near { self.new.at ≤ self.old.at + 8 }
+    {
+        self.put_digits::<8>(n, 16);
+    }
 }

@@ -1,13 +1,12 @@
 -- NONINTERFERENCE OF THE EXPORTED WRITER (specs/Noninterference.antt): by that of the functions that are exported (crate theorem_functions).
-use mathlib.Core.Path.{◌≡◌, subst}
-use Rattle.reflection.specs.declared.ResourceDef.{ResourceDef as Header}
+use mathlib.Core.Path.{subst}
 use Rattle.theorem_functions.specs.declared.WrittenPair.{WrittenPair}
 use Rattle.theorem_functions.specs.Calls.{Left, form, written_and_read}
 use Rattle.theorem_functions.specs.Noninterference.{Shared, SidesAlike, SameAnswers, both_refused as answers-refused, both_written as answers-written}
 use Rattle.theorem_functions.proofs.Noninterference.{noninterference}
-use Rattle.theorem_exports.specs.Calls.{Side, lent_by, left_after}
+use Rattle.theorem_exports.specs.Calls.{Side, lent_by}
 use Rattle.theorem_exports.specs.Noninterference.{SameNumbers, both_refused, both_written}
-use Rattle.theorem_exports.proofs.Sides.{read_left, side_calls, side_words, refused_export, ReadSide, read_side}
+use Rattle.theorem_exports.proofs.Sides.{read_left, side_calls, side_words, refused_export, read_side}
 
 module _ (a b : Side) where
   abbrev answers : WrittenPair

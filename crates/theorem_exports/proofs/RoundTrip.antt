@@ -2,9 +2,9 @@
 -- was lent, so a second call with as much scratch and output comes to the same.
 use Rattle.reflection.specs.Outcome.{Outcome}
 use Rattle.std.specs.Prelude.{Ok}
-use mathlib.Core.Path.{◌≡◌, refl, sym, ap, subst, ◌∙◌}
-use mathlib.Core.List.{List, [], ◌∷◌}
-use Prim.Native.Nat.{ℕ, ◌≤◌, min}
+use mathlib.Core.Path.{◌≡◌, refl, sym, ap, ◌∙◌}
+use mathlib.Core.List.{[], ◌∷◌}
+use Prim.Native.Nat.{ℕ}
 use native.Mathlib.Omega.{arith}
 use lib.ListN.{length as size, take}
 use Rattle.words.specs.Splice.{splice}
@@ -16,14 +16,12 @@ use Rattle.write_spec.specs.Outcome.{write}
 use Rattle.nontrefalcu.specs.Exports.{header_words_in_table, header_at}
 use Rattle.nontrefalcu.specs.Writing.{canonical_into}
 use Rattle.theorem_functions.specs.declared.WrittenTwice.{WrittenTwice}
-use Rattle.theorem_functions.specs.Calls.{Left, reflection_in, form, written_and_read}
-use Rattle.theorem_functions.specs.Noninterference.{RefusedSide}
+use Rattle.theorem_functions.specs.Calls.{reflection_in, form, written_and_read}
 use Rattle.theorem_functions.specs.RoundTrip.{again, FieldsRestored, refused_first, restored as first-restored}
 use Rattle.theorem_functions.proofs.Written.{written_form, written_start}
 use Rattle.theorem_functions.proofs.Noninterference.{written_bytes}
 use Rattle.theorem_functions.proofs.RoundTrip.{round_trip_demand}
-use Rattle.theorem_exports.specs.Calls.{WordsLent, WordsLeft, WriteCall, Side, lent_by, left_after}
-use Rattle.theorem_exports.specs.Noninterference.{RefusedExport}
+use Rattle.theorem_exports.specs.Calls.{WordsLent, WordsLeft, WriteCall, Side, lent_by}
 use Rattle.theorem_exports.specs.RoundTrip.{LentAgain, SameBytesAgain, RestoredExport, RoundTripOf, refused, restored}
 use Rattle.theorem_exports.proofs.Sides.{read_left, side_calls, side_words, number_written, length_written, refused_export, ReadSide, read_side}
 

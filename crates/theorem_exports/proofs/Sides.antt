@@ -22,10 +22,11 @@ use Rattle.read.specs.Parsed.{parsed_of, read_into}
 use Rattle.theorem_round_trip.specs.RoundTrip.{EachIsWord}
 use Rattle.nontrefalcu.specs.Exports.{number_of, result_table, header_words_in_table, header_at, header_table, one_word, length_table}
 use Rattle.nontrefalcu.specs.Writing.{canonical_into}
-use Rattle.theorem_functions.specs.Calls.{Lent, Left, left, form, read_back, written_and_read, WroteAndRead, wrote}
+use Rattle.theorem_functions.specs.Calls.{Left, left, form, read_back, written_and_read, WroteAndRead, wrote}
 use Rattle.theorem_functions.specs.Noninterference.{RefusedSide}
-use Rattle.theorem_functions.proofs.Noninterference.{LentWords, written_bytes}
-use Rattle.theorem_exports.specs.Calls.{WordsLent, WordsLeft, WriteCall, ParseCall, WholeRoom, WordTables, Side, lent_by, left_after}
+use Rattle.theorem_functions.specs.Words.{LentWords}
+use Rattle.theorem_functions.proofs.Noninterference.{written_bytes}
+use Rattle.theorem_exports.specs.Calls.{WordsLent, WordsLeft, WriteCall, WholeRoom, WordTables, Side, lent_by, left_after}
 use Rattle.theorem_exports.specs.Noninterference.{RefusedExport, WrittenExport}
 
 -- What the writer's call leaves, with the tables as reading leaves them.

@@ -28,7 +28,7 @@ use Rattle.text_output.specs.Written.{fitting, output_of}
 use Rattle.write_spec.specs.Canonical.{canonical}
 use Rattle.write_spec.specs.Outcome.{scratch_size, canonical_or16, write}
 use Rattle.theorem_round_trip.specs.RoundTrip.{NumbersAreWords}
-use Rattle.theorem_round_trip.proofs.HeldWords.{WordTable, HeaderWords, held_words}
+use Rattle.theorem_round_trip.proofs.HeldWords.{held_words}
 use Rattle.theorem_noninterference.specs.Noninterference.{SameButDefaults, Covered, Alike as FormsAlike, Indistinguishable}
 use Rattle.theorem_noninterference.specs.Noninterference.{both_refused as forms-refused, both_written as forms-written}
 use Rattle.theorem_noninterference.proofs.Noninterference.{canonical_noninterference}
@@ -37,16 +37,9 @@ use Rattle.theorem_functions.specs.declared.WrittenPair.{WrittenPair}
 use Rattle.theorem_functions.specs.Calls.{Lent, Left, reflection_in, form, read_back, written_and_read, WroteAndRead, wrote}
 use Rattle.theorem_functions.specs.Noninterference.{SharedButDefaults, Shared, places_found, defaults_held, RefusedSide, WrittenSide}
 use Rattle.theorem_functions.specs.Noninterference.{SameAnswers, both_refused, both_written}
+use Rattle.theorem_functions.specs.Words.{LentWords}
 use Rattle.theorem_functions.proofs.Written.{WrittenForm, written_form, written_start, written_rest}
 use Rattle.theorem_functions.proofs.Found.{places_read}
-
--- What is lent as words is words.
-pub record LentWords (l : Lent) : Type 0 where
-  pub header : HeaderWords l.header
-  pub bindings : WordTable l.bindings
-  pub buffers : WordTable l.buffers
-  pub variables : WordTable l.variables
-  pub types : WordTable l.types
 
 pub numbers_are_words : (l : Lent) → LentWords l → (r : ResourceDef Bytes Bytes) → reflection_in l ≡ Some r → NumbersAreWords r
 numbers_are_words l w r is =

@@ -36,7 +36,8 @@ use Rattle.theorem_functions.specs.declared.WrittenTwice.{WrittenTwice}
 use Rattle.theorem_functions.specs.Calls.{Lent, Left, reflection_in, form, read_back, written_and_read, WroteAndRead, wrote}
 use Rattle.theorem_functions.specs.RoundTrip.{written_again, again, SameAgain, FieldsRestored, refused_first, restored, RoundTrip}
 use Rattle.theorem_functions.proofs.Written.{WrittenForm, written_form, written_start, written_rest, written_part}
-use Rattle.theorem_functions.proofs.Noninterference.{LentWords, numbers_are_words, refused_side, written_bytes, written_answer_lem, read_outcome}
+use Rattle.theorem_functions.specs.Words.{LentWords}
+use Rattle.theorem_functions.proofs.Noninterference.{numbers_are_words, refused_side, written_bytes, written_answer_lem, read_outcome}
 
 -- A list whose elements are bytes.
 abbrev pub ByteList : Bytes → Type 0
@@ -55,15 +56,6 @@ part_bytes l n are = go (inside (length l) 0 n)
     go : (holds : Bool) → ByteList (elim holds [ true ↦ take n (drop 0 l) | false ↦ [] ])
     go true = take_bytes n l are
     go false = λ i. omega arith
-
--- The text of edits of the second writing: none.
-pub empty_part : (l : Bytes) → part l 0 0 ≡ []
-unfolding part
-empty_part l = go (inside (length l) 0 0)
-  where
-    go : (holds : Bool) → ◌≡◌ {A = Bytes} (elim holds [ true ↦ take 0 (drop 0 l) | false ↦ [] ]) []
-    go true = refl
-    go false = refl
 
 full : AtMostFull full_room
 full = record { bindings = omega arith; buffers = omega arith; variables = omega arith; types = omega arith }
@@ -138,18 +130,14 @@ module _ (l : Lent) (after : Left) (answer : Outcome WrittenAndRead) (calls : Wr
 -- The second call of the writer: its chunk is the written part, its text of edits is empty, and its scratch is the first call's.
 pub second_call : (l : Lent) (after : Left) (first : Outcome WrittenAndRead) → WroteAndRead l after first → ByteList after.out → (n : ℕ) (h : Header)
     → first ≡ wrote n (Ok h)
-    → (room : ℕ) {chunk edits : Bytes} → chunk ≡ part after.out 0 n → edits ≡ part after.out 0 0
-    → again (length l.scratch) room (form l)
-    ≡ write (length after.scratch) room (table_contents chunk edits h after.found_bindings after.found_buffers after.found_variables
-    after.found_types)
-second_call l after first calls are-bytes n h is room chunk-is edits-is =
+    → (room : ℕ) {chunk edits : Bytes} {def : Header} {b f v t : List ℕ} → chunk ≡ part after.out 0 n → edits ≡ [] → def ≡ h
+    → b ≡ after.found_bindings → f ≡ after.found_buffers → v ≡ after.found_variables → t ≡ after.found_types
+    → again (length l.scratch) room (form l) ≡ write (length after.scratch) room (table_contents chunk edits def b f v t)
+second_call l after first calls are-bytes n h is room chunk-is edits-is def-is b-is f-is v-is t-is =
     let scratch_is : length after.scratch ≡ length l.scratch = ap length calls.scratch_is ∙ length-replicate (length l.scratch) 0 in
     again_written l after first calls (length l.scratch) room n h is are-bytes
     ∙ sym
-    (λ i.
-    write (scratch_is i) room
-    (table_contents (chunk-is i) ((edits-is ∙ empty_part after.out) i) h after.found_bindings after.found_buffers after.found_variables
-    after.found_types))
+    (λ i. write (scratch_is i) room (table_contents (chunk-is i) (edits-is i) (def-is i) (b-is i) (f-is i) (v-is i) (t-is i)))
 
 -- The scratch that the second call zeroes is as long as the first call's.
 pub rescratched : (l : Lent) (after : Left) (first : Outcome WrittenAndRead) → WroteAndRead l after first → (scratch : List ℕ)

@@ -4,6 +4,8 @@ use Rattle.reflection.specs.Outcome.{Outcome}
 use Rattle.std.specs.Prelude.{◌≡◌, List, ℕ, length, replicate, Option, Ok, Err}
 use Rattle.reflection.specs.declared.Text.{Text}
 use Rattle.reflection.specs.declared.ResourceDef.{ResourceDef as Header}
+use Rattle.reflection.specs.declared.names.Texts.{Texts}
+use Rattle.tables.specs.declared.lent.Reflection.{Reflection}
 use Rattle.reflection.specs.Limits.{binding_table, buffer_table, variable_table, type_table}
 use Rattle.reflection.specs.Reflection.{ResourceDef}
 use Rattle.tables.specs.Tables.{binding_rows, buffer_rows, variable_rows, type_rows, table}
@@ -15,6 +17,7 @@ use Rattle.read.specs.Parsed.{parsed_of}
 use Rattle.readable.specs.Readable.{table_contents}
 use Rattle.text_output.specs.Written.{output_of}
 use Rattle.write_spec.specs.Outcome.{write}
+use Rattle.whole_tables.specs.declared.WholeTables.{WholeTables}
 use Rattle.theorem_functions.specs.declared.WrittenAndRead.{WrittenAndRead}
 
 -- What is lent: the chunk and the text of edits, the header, the four tables, and scratch and output with their old contents.
@@ -43,6 +46,10 @@ lent chunk edits header bindings buffers variables types scratch out =
       out = out;
     }
 
+-- The same of what the parameters hold.
+abbrev pub lent_in : Texts → Reflection → List ℕ → Bytes → Lent
+lent_in texts r scratch out = lent texts.chunk.now texts.edits.now r.def r.bindings.now r.buffers.now r.variables.now r.types.now scratch out
+
 -- What is left: scratch and output, and the four tables that the written bytes were read into.
 pub record Left : Type 0 where
   pub scratch : List ℕ
@@ -55,6 +62,9 @@ pub record Left : Type 0 where
 abbrev pub left : List ℕ → Bytes → List ℕ → List ℕ → List ℕ → List ℕ → Left
 left scratch out bindings buffers variables types =
     record { scratch = scratch; out = out; found_bindings = bindings; found_buffers = buffers; found_variables = variables; found_types = types }
+
+abbrev pub left_in : List ℕ → Bytes → WholeTables → Left
+left_in scratch out found = left scratch out found.bindings found.buffers found.variables found.types
 
 -- The reflection that the lent header, tables and buffers hold; `none` where they hold none.
 abbrev pub reflection_in : Lent → Option (ResourceDef Bytes Bytes)

@@ -2,9 +2,12 @@
 // 01's case V with a default of four bytes; the defaults differ, and so does where the chunks have them and the creator.
 #![tactic(auto)]
 
-use reflection::{BINDING_TABLE, BUFFER_TABLE, Refusal, ResourceDef, TYPE_TABLE, VARIABLE_TABLE};
+use reflection::Texts;
 use std::io;
 use std::io::{BufWriter, Write};
+use theorem_functions::Side;
+use whole_tables::WholeTables;
+use write_spec::SCRATCH_WORDS;
 
 mod seen;
 
@@ -19,168 +22,92 @@ const INPUT: usize = LENGTH_A + LENGTH_B;
 // The bytes of each lent output.
 const ROOM: usize = 128;
 
-// The tables that a chunk is read into, of document 01's whole room.
+// A chunk with its text of edits, and the tables that it is read into; then what is lent to write what they hold, and the tables to read that again.
 #[derive(Drop)]
-struct Tables {
-    bindings: [u32; BINDING_TABLE],
-    buffers: [u32; BUFFER_TABLE],
-    variables: [u32; VARIABLE_TABLE],
-    types: [u32; TYPE_TABLE],
+struct Lent<'a> {
+    texts: Texts<'a>,
+    tables: WholeTables,
+    scratch: [u32; SCRATCH_WORDS],
+    out: [u8; ROOM],
+    found: WholeTables,
 }
 
-impl Tables {
-    fn new() -> Tables {
-        Tables {
-            bindings: [0; BINDING_TABLE],
-            buffers: [0; BUFFER_TABLE],
-            variables: [0; VARIABLE_TABLE],
-            types: [0; TYPE_TABLE],
+impl<'a> Lent<'a> {
+    // Nothing is edited. The scratch holds `word` before, and the output `byte`.
+    fn new(chunk: &'a [u8], word: u32, byte: u8) -> Lent<'a> {
+        Lent {
+            texts: Texts { chunk, edits: &[] },
+            tables: WholeTables::new(),
+            scratch: [word; SCRATCH_WORDS],
+            out: [byte; ROOM],
+            found: WholeTables::new(),
         }
     }
-
-    fn read(&mut self, chunk: &[u8]) -> Result<ResourceDef, Refusal> {
-        read::parse_rdef(
-            chunk,
-            &mut self.bindings,
-            &mut self.buffers,
-            &mut self.variables,
-            &mut self.types,
-        )
-    }
 }
 
-// Writes A and B, reads both, and prints what it saw. The outputs hold 0x11 and 0x22 before.
-fn pair<W: Write>(
-    lines: &mut W,
-    chunk_a: &[u8],
-    chunk_b: &[u8],
-    a: &mut Tables,
-    b: &mut Tables,
-    scratch_a: &mut [u32; write_spec::SCRATCH_WORDS],
-    scratch_b: &mut [u32; write_spec::SCRATCH_WORDS],
-    out_a: &mut [u8; ROOM],
-    out_b: &mut [u8; ROOM],
-    found_a: &mut Tables,
-    found_b: &mut Tables,
-) -> io::Result<()> {
-    let (Ok(def_a), Ok(def_b)) = (a.read(chunk_a), b.read(chunk_b)) else {
+// Writes A and B, reads both, and prints what it saw.
+fn pair<W: Write>(lines: &mut W, a: &mut Lent<'_>, b: &mut Lent<'_>) -> io::Result<()> {
+    let (Ok(def_a), Ok(def_b)) = (a.tables.read(a.texts.chunk), b.tables.read(b.texts.chunk)) else {
         return Ok(());
     };
-    let pair = theorem_functions::write_pair(
-        chunk_a,
-        &[],
-        def_a,
-        &a.bindings,
-        &a.buffers,
-        &a.variables,
-        &a.types,
-        scratch_a,
-        out_a,
-        &mut found_a.bindings,
-        &mut found_a.buffers,
-        &mut found_a.variables,
-        &mut found_a.types,
-        chunk_b,
-        &[],
-        def_b,
-        &b.bindings,
-        &b.buffers,
-        &b.variables,
-        &b.types,
-        scratch_b,
-        out_b,
-        &mut found_b.bindings,
-        &mut found_b.buffers,
-        &mut found_b.variables,
-        &mut found_b.types,
-    );
+    let mut side_a = Side {
+        texts: a.texts,
+        r: a.tables.reflection(def_a),
+        scratch: &mut a.scratch,
+        out: &mut a.out,
+        found: &mut a.found,
+    };
+    let mut side_b = Side {
+        texts: b.texts,
+        r: b.tables.reflection(def_b),
+        scratch: &mut b.scratch,
+        out: &mut b.out,
+        found: &mut b.found,
+    };
+    let pair = theorem_functions::write_pair(&mut side_a, &mut side_b);
     let n = seen::length(pair.a);
     let count = seen::variables(pair.a);
     seen::answer_line(lines, "a", pair.a)?;
     seen::answer_line(lines, "b", pair.b)?;
-    seen::place_line(lines, "place a", out_a, &found_a.variables)?;
-    seen::place_line(lines, "place b", out_b, &found_b.variables)?;
-    let outside = seen::differing(out_a, out_b, &found_a.variables, count, n, false);
-    let inside = seen::differing(out_a, out_b, &found_a.variables, count, n, true);
+    seen::place_line(lines, "place a", &a.out, &a.found.variables)?;
+    seen::place_line(lines, "place b", &b.out, &b.found.variables)?;
+    let outside = seen::differing(&a.out, &b.out, &a.found.variables, count, n, false);
+    let inside = seen::differing(&a.out, &b.out, &a.found.variables, count, n, true);
     writeln!(lines, "differ outside\t{outside}")?;
     writeln!(lines, "differ inside\t{inside}")?;
-    seen::bool_line(lines, "past a kept", seen::kept(out_a, n, 0x11))?;
-    seen::bool_line(lines, "past b kept", seen::kept(out_b, n, 0x22))?;
-    seen::bool_line(lines, "scratch a zero", seen::zero(scratch_a))?;
-    seen::bool_line(lines, "scratch b zero", seen::zero(scratch_b))
+    seen::bool_line(lines, "past a kept", seen::kept(&a.out, n, 0x11))?;
+    seen::bool_line(lines, "past b kept", seen::kept(&b.out, n, 0x22))?;
+    seen::bool_line(lines, "scratch a zero", seen::zero(&a.scratch))?;
+    seen::bool_line(lines, "scratch b zero", seen::zero(&b.scratch))
 }
 
 // Writes a chunk's reflection, reads it, writes what was read, and prints what it saw.
-fn twice<W: Write>(
-    lines: &mut W,
-    chunk: &[u8],
-    tables: &mut Tables,
-    scratch: &mut [u32; write_spec::SCRATCH_WORDS],
-    first: &mut [u8; ROOM],
-    found: &mut Tables,
-    second: &mut [u8; ROOM],
-) -> io::Result<()> {
-    let Ok(def) = tables.read(chunk) else {
+fn twice<W: Write>(lines: &mut W, a: &mut Lent<'_>, second: &mut [u8; ROOM]) -> io::Result<()> {
+    let Ok(def) = a.tables.read(a.texts.chunk) else {
         return Ok(());
     };
     let both = theorem_functions::write_read_write(
-        chunk,
-        &[],
-        def,
-        &tables.bindings,
-        &tables.buffers,
-        &tables.variables,
-        &tables.types,
-        scratch,
-        first,
-        &mut found.bindings,
-        &mut found.buffers,
-        &mut found.variables,
-        &mut found.types,
+        a.texts,
+        a.tables.reflection(def),
+        &mut a.scratch,
+        &mut a.out,
+        &mut a.found,
         second,
     );
     let n = seen::length(both.first);
     seen::answer_line(lines, "first", both.first)?;
     seen::written_line(lines, "again", both.again)?;
-    let different = seen::differing(first, second, &found.variables, 0, n, false);
+    let different = seen::differing(&a.out, second, &a.found.variables, 0, n, false);
     writeln!(lines, "differ again\t{different}")
 }
 
 fn main(rt: HostRuntime) -> io::Result<()> {
     let mut chunks = [0u8; INPUT];
     input::standard_full(&rt, &mut chunks)?;
-    let chunk_a = &chunks[..LENGTH_A];
-    let chunk_b = &chunks[LENGTH_A..];
-    let mut a = Tables::new();
-    let mut b = Tables::new();
-    let mut scratch_a = [7u32; write_spec::SCRATCH_WORDS];
-    let mut scratch_b = [8u32; write_spec::SCRATCH_WORDS];
-    let mut out_a = [0x11u8; ROOM];
-    let mut out_b = [0x22u8; ROOM];
-    let mut found_a = Tables::new();
-    let mut found_b = Tables::new();
+    let mut a = Lent::new(&chunks[..LENGTH_A], 7, 0x11);
+    let mut b = Lent::new(&chunks[LENGTH_A..], 8, 0x22);
     let mut lines = BufWriter::new(rt.alloc(), rt.stdout())?;
-    pair(
-        &mut lines,
-        chunk_a,
-        chunk_b,
-        &mut a,
-        &mut b,
-        &mut scratch_a,
-        &mut scratch_b,
-        &mut out_a,
-        &mut out_b,
-        &mut found_a,
-        &mut found_b,
-    )?;
-    twice(
-        &mut lines,
-        chunk_a,
-        &mut a,
-        &mut scratch_a,
-        &mut out_a,
-        &mut found_a,
-        &mut out_b,
-    )?;
+    pair(&mut lines, &mut a, &mut b)?;
+    twice(&mut lines, &mut a, &mut b.out)?;
     stdout::flush(&mut lines)
 }

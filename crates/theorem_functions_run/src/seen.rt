@@ -1,5 +1,5 @@
 // What the program looks at, and its lines: a name, and fields with a tab before each.
-use reflection::Refusal;
+use reflection::{Refusal, Texts};
 use std::io;
 use std::io::Write;
 use theorem_functions::WrittenAndRead;
@@ -63,8 +63,12 @@ pub fn place_line<W: Write>(
     let default = tables::variable_at(variables, 0).default_value;
     let place = default.place;
     let length = default.length;
+    let texts = Texts {
+        chunk: written,
+        edits: written,
+    };
     write!(out, "{name}\t{place}\t{length}\t")?;
-    stdout::put_hex(out, reflection::name_part(written, written, default))?;
+    stdout::put_hex(out, texts.name_part(default))?;
     stdout::put_byte(out, b'\n')
 }
 

@@ -18,7 +18,7 @@ use Rattle.text.proofs.Written.{cstring_of_string}
 use Rattle.reflection.specs.declared.Text.{Text}
 use Rattle.reflection.specs.Texts.{in_chunk, text_bytes}
 use Rattle.reflection.specs.Contents.{Bytes}
-use Rattle.reflection.proofs.Texts.{bytes_in_chunk}
+use Rattle.reflection.proofs.TextParts.{bytes_in_chunk}
 use Rattle.read_spec.specs.Read.{cstring_or_empty, default_at}
 use Rattle.readable.specs.Readable.{name_readable, default_readable}
 use Rattle.write_spec.specs.Step.{Cell, byte, name_byte, default_byte, cells_of}

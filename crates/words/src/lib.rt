@@ -6,10 +6,6 @@ ghost use Rattle.words.specs.Words.{half_at, word_at, word_if, low_at, high_at};
 ghost use Rattle.words.specs.Parts.{inside, part};
 ghost use Rattle.words.specs.Splice.{splice};
 
-mod tests;
-
-pub use tests::{at_most, both, either, one_of, same};
-
 // No Option here and below: what lies past the end counts as 0, which keeps the definitions total (docs/DECISIONS.md).
 
 // The byte at `at`, 0 past the end.
@@ -31,36 +27,17 @@ pub fn half_at(s: &[u8], at: usize) -> u32
     byte_at(s, at) + 256 * byte_at(s, at + 1)
 }
 
-// The four bytes at `at`, all of which lie in s, as a number: one load of the machine.
-#[tactic(auto, unfolding(crate::specs::Words::word_at))]
-fn word_within(s: &[u8], at: usize) -> u32
-    requires { at + 4 ≤ length s.now }
-    ensures { result ≡ word_at s.now at }
-{
-    u32::from_le_bytes([s[at], s[at + 1], s[at + 2], s[at + 3]])
-}
-
-// The four bytes at `at` as a number, by its halves: for the last bytes of s and past its end.
+// The four bytes at `at` as a number; what lies past the end counts as 0. Mostly all four are there: one load of the machine.
 #[tactic(auto, unfolding(crate::specs::Words::half_at, crate::specs::Words::word_at))]
-fn word_near_end(s: &[u8], at: usize) -> u32
-    ensures { result ≡ word_at s.now at }
-{
-    // As above.
-    if s.len() <= at {
-        return 0;
-    }
-    half_at(s, at) + 65536 * half_at(s, at + 2)
-}
-
-// The four bytes at `at` as a number; what lies past the end counts as 0.
-#[tactic(auto, unfolding(crate::specs::Parts::inside))]
 pub fn word_at(s: &[u8], at: usize) -> u32
     ensures { result ≡ word_at s.now at }
 {
-    if inside(s.len(), at, 4) {
-        word_within(s, at)
-    } else {
-        word_near_end(s, at)
+    let Some(rest) = s.get(at..) else {
+        return 0;
+    };
+    match rest.first_chunk() {
+        Some(&bytes) => u32::from_le_bytes(bytes),
+        None => half_at(rest, 0) + 65536 * half_at(rest, 2),
     }
 }
 

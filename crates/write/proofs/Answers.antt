@@ -16,11 +16,13 @@ use Rattle.reflection.specs.Reflection.{ResourceDef}
 use Rattle.reflection.specs.Contents.{Bytes, contents}
 use Rattle.readable.specs.Readable.{table_contents, readable, is_readable, readable_contents}
 use Rattle.readable.proofs.ReadableTables.{Readable}
-use Rattle.text_output.specs.Written.{fits_in, fitting, written_of, output_of}
+use Rattle.reflection.specs.Outcome.{Outcome}
+use Rattle.text_output.specs.Written.{fits_in, fitting, written_of, output_of, Written}
 use Rattle.text_output.specs.Cursor.{finished, kept}
 use Rattle.text_output.proofs.Fitting.{finished_answer, finished_output}
 use Rattle.write_spec.specs.Canonical.{canonical}
 use Rattle.write_tables.specs.Chunk.{TooLong}
+use Rattle.write.specs.WriteInto.{WrittenInto}
 use Rattle.write_spec.specs.Outcome.{scratch_size, canonical_or16, write}
 
 -- A scratch that kept its length is zeros, all of it, once it is cleared from its first word on.
@@ -69,15 +71,24 @@ longer room n h = lt-leb n (min room chunk_limit) (omega arith)
 
 -- The end of writing: the canonical form was put, or it is longer than a chunk may be; then the answer is 17, whatever the output holds.
 module _ {bytes lent out : List ℕ} {at : ℕ} where
-  pub chunk_answer : Put lent 0 bytes out at ⊎ TooLong bytes lent out at → finished (length out) at ≡ written_of (fitting (length lent) (Ok bytes))
+  chunk_answer : Put lent 0 bytes out at ⊎ TooLong bytes lent out at → finished (length out) at ≡ written_of (fitting (length lent) (Ok bytes))
   unfolding finished fitting written_of
   chunk_answer (inl put) = finished_answer put
   chunk_answer (inr long) = rw (longer (length out) at long.reached, longer (length lent) (length bytes) long.defined)
 
-  pub chunk_output : Put lent 0 bytes out at ⊎ TooLong bytes lent out at
+  chunk_output : Put lent 0 bytes out at ⊎ TooLong bytes lent out at
       → kept (finished (length out) at) out ≡ output_of (fitting (length lent) (Ok bytes)) lent
   unfolding finished fitting kept output_of
   chunk_output (inl put) = finished_output put
   chunk_output (inr long) =
       rw (longer (length out) at long.reached, longer (length lent) (length bytes) long.defined)
       (ap (λ (n : ℕ). replicate n 0) long.long)
+
+  -- So what was written is what was asked for, once the end has told whether it fits.
+  pub chunk_into : {asked : Outcome Bytes} {after : List ℕ} {r : Written} → Put lent 0 bytes out at ⊎ TooLong bytes lent out at
+      → fitting (length lent) (Ok bytes) ≡ asked → (r ≡ finished (length out) at) × (after ≡ kept (finished (length out) at) out)
+      → WrittenInto asked lent after r
+  chunk_into put is end = record {
+    answer = end.0 ∙ chunk_answer put ∙ ap written_of is;
+    out = end.1 ∙ chunk_output put ∙ ap (λ (o : Outcome Bytes). output_of o lent) is;
+  }

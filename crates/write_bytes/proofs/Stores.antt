@@ -6,7 +6,8 @@ use native.Mathlib.Omega.{arith}
 use lib.ListN.{take, replicate, length-replicate}
 use Rattle.std.specs.Int.{to_le_bytes, w32}
 use Rattle.words.specs.Words.{word_bytes}
-use Rattle.words.specs.Splice.{Put}
+use Rattle.words.specs.Splice.{Put, splice}
+use Rattle.words.proofs.Words.{length_word_bytes}
 use Rattle.write_spec.specs.Step.{padding_at}
 
 -- the bytes of a word, as the library writes them
@@ -16,6 +17,9 @@ le_bytes_word n =
     let third : n / 65536 % 256 ≡ n / 256 / 256 % 256 = omega arith in
     let fourth : n / 16777216 % 256 ≡ n / 256 / 256 / 256 % 256 = omega arith in
     λ i. n % 256 ∷ n / 256 % 256 ∷ third i ∷ fourth i ∷ []
+
+pub word_put : {l l' : List ℕ} {at : ℕ} (word : ℕ) → l' ≡ splice l at (word_bytes word) → Put l at (word_bytes word) l' (at + 4)
+word_put word e = record { list = e; next = omega (arith, length_word_bytes word) }
 
 -- the first n of three
 abbrev three : List ℕ

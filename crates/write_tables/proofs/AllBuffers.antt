@@ -16,7 +16,7 @@ use Rattle.write_spec.specs.Step.{Pools, padding_at}
 use Rattle.write_spec.specs.Records.{Section, rows, buffer_words_in_chunk}
 use Rattle.write_spec.specs.Layout.{zip, place_outer_names, place_sections, place_buffers}
 use Rattle.write_pool.specs.Pool.{entry_count}
-use Rattle.write_texts.specs.declared.WriteCursor.{WriteCursor}
+use Rattle.write_texts.specs.Cursor.{WriteCursor}
 use Rattle.write_texts.specs.Simulates.{Simulates, text_facts}
 use Rattle.write_texts.specs.Bytes.{joined_bytes}
 use Rattle.write_texts.specs.Scratch.{buffer_offsets_width, buffers_start, inner_pool, default_pool}
@@ -71,11 +71,9 @@ module _ {chunk edits buffers types : List ℕ} {count at : ℕ} {s : List ℕ} 
   start_near = omega (arith, ready.nothing.output, padding_near padded)
 
   -- There is room for the names, and then for the sections.
-  pub names_ready : NamesReady chunk edits buffer_width count buffers_start buffer_offsets_width (start + 4 * (count * (buffer_stride / 4))) s
+  pub names_ready : NamesReady chunk edits count buffers_start buffer_offsets_width (start + 4 * (count * (buffer_stride / 4))) s
   names_ready = record {
-    sources = ready.sources;
     pools = ready.pools;
-    wide = omega arith;
     stored = omega arith;
     apart = omega arith;
     inside = omega (arith, ready.few_buffers);
@@ -93,7 +91,6 @@ module _ {chunk edits buffers types : List ℕ} {count at : ℕ} {s : List ℕ} 
 
     pub sections_ready : SectionsReady chunk edits buffers types count at₂ s₁
     sections_ready = record {
-      sources = ready.sources;
       pools = named.ready;
       bounds = record {
         output = omega (arith, start_near, ready.few_buffers, named.near);
@@ -151,8 +148,8 @@ module _ {chunk edits buffers types : List ℕ} {count at : ℕ} {s : List ℕ} 
           ran_from (ap (λ (x : ℕ). start + 4 * (x * (buffer_stride / 4))) (sym (length_records held 0 count)))
           (ran_step chunk edits (ap (place_outer_names (text_facts chunk edits)) names_are) (ran_like chunk edits refl refl stored (named.ran types)))
 
-      pub buffers_placed : BuffersPlaced chunk edits buffers variables types sm5 count at s s₂ out out₄ (record { offset = start; at = to.at })
-      buffers_placed =
+      placed_buffers : BuffersPlaced chunk edits buffers variables types sm5 count at s s₂ out out₄ (record { offset = start; at = to.at })
+      placed_buffers =
           let last-node : to.node ≡ root_at types (first_variable buffers count)
           = placed.advance.next ∙ ap (root_at types) (zero-add (first_variable buffers count)) in
           record {
@@ -166,3 +163,10 @@ module _ {chunk edits buffers types : List ℕ} {count at : ℕ} {s : List ℕ} 
             names = omega (arith, placed.advance.names, no_names, last-node, ready.fit.few_nodes);
             near = omega (arith, placed.near, named.near, start_near, last-node, ready.fit.few_nodes, ready.few_buffers);
           }
+
+      -- The records leave the scratch.
+      pub buffers_placed : {s₃ : List ℕ} → s₃ ≡ s₂ → BuffersPlaced chunk edits buffers variables types sm5 count at s s₃ out out₄
+          (record { offset = start; at = to.at })
+      buffers_placed kept =
+          subst (λ x. BuffersPlaced chunk edits buffers variables types sm5 count at s x out out₄ (record { offset = start; at = to.at }))
+          (sym kept) placed_buffers

@@ -1,7 +1,7 @@
 -- The whole chunk, from what the calls did in turn: the bindings' names and records, the buffers, the creator, padding, and the header. What was put is
 -- the layout of the reflection that the tables hold, over places, and that is its canonical form, over bytes.
 use mathlib.Core.Path.{◌≡◌, refl, ap, sym, ◌∙◌, subst}
-use mathlib.Core.Bool.{Bool, true}
+use mathlib.Core.Bool.{Bool, true, false}
 use mathlib.Core.List.{List, [], ◌∷◌, map}
 use mathlib.Core.Logic.{◌⊎◌}
 use Prim.Native.Nat.{ℕ, ◌+◌, ◌*◌, ◌≤◌}
@@ -24,11 +24,10 @@ use Rattle.write_spec.specs.Layout.{place_outer_names, place_inner_name, layout}
 use Rattle.write_spec.specs.Canonical.{canonical}
 use Rattle.write_spec.proofs.Natural.{canonical_through}
 use Rattle.write_pool.specs.Pool.{entry_count}
-use Rattle.write_texts.specs.declared.Placement.{Placement}
+use Rattle.write_texts.specs.Cursor.{Placement}
 use Rattle.write_texts.specs.Simulates.{Simulates, text_facts, cell_bytes}
 use Rattle.write_texts.specs.Bytes.{joined_bytes}
 use Rattle.write_texts.specs.Scratch.{inner_start, defaults_start, bindings_start, inner_pool}
-use Rattle.write_texts.specs.PlacedInPool.{SourcesFit}
 use Rattle.write_texts.specs.PlacedInScratch.{TextPlaced}
 use Rattle.write_texts.proofs.Runs.{ran_like, ran_step}
 use Rattle.tables.specs.TableReflection.{buffer_in_table, reflection_in_tables, Sized}
@@ -65,23 +64,33 @@ binding_stored s n = same_records (stored_at bindings_start 1 s) (binding_name s
 length_bindings : (bindings : List ℕ) (n : ℕ) → length (map binding_from_table (records_from (binding_at bindings) 0 n)) ≡ n
 length_bindings bindings n = length-map (records_from (binding_at bindings) 0 n) binding_from_table ∙ length_records (binding_at bindings) 0 n
 
--- There is room at each call.
-pub bindings_behind : {h : Header} {buffers types : List ℕ} {bsize : ℕ} → Sized h buffers types → bsize ≤ binding_size true
-    → h.binding_count * bsize ≤ binding_room * binding_size true
-bindings_behind {h} sized few-binding = omega (arith, mul-le-mul_left h.binding_count few-binding, sized.few_bindings)
+-- A header or a binding's record is at most as long as the longer.
+header_most : {size : ℕ} (sm5 : Bool) → size ≡ header_word_count sm5 → size ≤ header_word_count true
+header_most false sized = omega (arith, sized)
+header_most true sized = omega (arith, sized)
 
-module _ {h : Header} {buffers types : List ℕ} {chunk edits s s₀ : List ℕ} {hsize bsize : ℕ} (sized : Sized h buffers types) (sources : SourcesFit chunk edits)
-    (begun : PoolsBegun s s₀) (few-header : hsize ≤ header_word_count true) (few-binding : bsize ≤ binding_size true) where
-  pub names_ready : NamesReady chunk edits binding_width h.binding_count bindings_start 1 (4 * hsize + 4 * (h.binding_count * bsize)) s₀
+binding_most : {size : ℕ} (wide : Bool) → size ≡ binding_size wide → size ≤ binding_size true
+binding_most false sized = omega (arith, sized)
+binding_most true sized = omega (arith, sized)
+
+-- There is room at each call.
+pub header_near : {size : ℕ} (sm5 : Bool) → size ≡ header_word_count sm5 → 4 * size ≤ 100000
+header_near sm5 sized = omega (arith, header_most sm5 sized)
+
+pub bindings_behind : {h : Header} {buffers types : List ℕ} {size : ℕ} (wide : Bool) → Sized h buffers types → size ≡ binding_size wide
+    → h.binding_count * size ≤ binding_room * binding_size true
+bindings_behind {h} wide sized binding-sized = omega (arith, mul-le-mul_left h.binding_count (binding_most wide binding-sized), sized.few_bindings)
+
+module _ {h : Header} {buffers types : List ℕ} {chunk edits s s₀ : List ℕ} {hsize bsize : ℕ} (sm5 wide : Bool) (sized : Sized h buffers types)
+    (begun : PoolsBegun s s₀) (header-sized : hsize ≡ header_word_count sm5) (binding-sized : bsize ≡ binding_size wide) where
+  pub names_ready : NamesReady chunk edits h.binding_count bindings_start 1 (4 * hsize + 4 * (h.binding_count * bsize)) s₀
   names_ready = record {
-    sources = sources;
     pools = begun.ready chunk edits;
-    wide = omega arith;
     stored = omega arith;
     apart = omega arith;
     inside = omega (arith, sized.few_bindings);
     entries = omega (arith, begun.no_outer, sized.few_bindings);
-    output = omega (arith, few-header, bindings_behind sized few-binding, sized.few_bindings);
+    output = omega (arith, header_most sm5 header-sized, bindings_behind wide sized binding-sized, sized.few_bindings);
   }
 
   module _ (bindings : List ℕ) {s₁ out out₁ : List ℕ} {at₁ : ℕ}
@@ -91,23 +100,21 @@ module _ {h : Header} {buffers types : List ℕ} {chunk edits s s₀ : List ℕ}
     buffers_ready =
         let long = (begun.ready chunk edits).long in
         record {
-          sources = sources;
           pools = named.ready;
           nothing = record {
             no_names = omega (arith, ap entry_count (inner_same named.same (omega arith) (omega arith) long), begun.no_inner);
             no_defaults = omega (arith, ap entry_count (defaults_same named.same (omega arith) (omega arith) long), begun.no_defaults);
             names_room = omega (arith, named.entries, begun.no_outer, sized.few_bindings, sized.few_buffers);
-            output = omega (arith, named.near, few-header, bindings_behind sized few-binding, sized.few_bindings);
+            output = omega (arith, named.near, header_most sm5 header-sized, bindings_behind wide sized binding-sized, sized.few_bindings);
           };
           fit = record { few_variables = sized.few_variables; few_nodes = sized.few_nodes };
           few_buffers = sized.few_buffers;
         }
 
-    module _ {variables : List ℕ} {sm5 wide : Bool} (is-sm5 : sm5 ≡ is_sm5 (rd11_from_header h)) (is_IsWide : wide ≡ is_wide (rd11_from_header h))
-        (header-sized : hsize ≡ header_word_count sm5) (binding-sized : bsize ≡ binding_size wide)
-        {s₂ s₃ out₂ out₃ out₄ out₅ out₆ : List ℕ} {e₁ e₂ end : ℕ} {b c : Placement}
+    module _ {variables : List ℕ} (is-sm5 : sm5 ≡ is_sm5 (rd11_from_header h)) (is_IsWide : wide ≡ is_wide (rd11_from_header h))
+        {s₁' s₂ s₃ out₂ out₃ out₄ out₅ out₆ : List ℕ} {e₁ e₂ end : ℕ} {b c : Placement}
         (bound : Put out₁ (4 * hsize) (joined_bytes (rows_from (binding_row wide bindings s₁) 0 h.binding_count)) out₂ e₁)
-        (placed : BuffersPlaced chunk edits buffers variables types sm5 h.buffer_count at₁ s₁ s₂ out₂ out₃ b)
+        (kept : s₁' ≡ s₁) (placed : BuffersPlaced chunk edits buffers variables types sm5 h.buffer_count at₁ s₁' s₂ out₂ out₃ b)
         (created : TextPlaced chunk edits (place_inner_name (text_facts chunk edits) h.creator) b.at inner_pool inner_start defaults_start s₂ s₃ out₃ out₄ c)
         (padded : Put out₄ c.at (replicate (padding_at c.at) 0xab) out₅ end)
         (headed : Put out₅ 0 (joined_bytes (header_row h b.offset c.offset)) out₆ e₂) where
@@ -166,7 +173,8 @@ module _ {h : Header} {buffers types : List ℕ} {chunk edits s s₀ : List ℕ}
       unfolding reflection_in_tables
       laid_out =
           ran_chunk chunk edits r named_ran written
-          (subst (λ v. BuffersPlaced chunk edits buffers variables types v h.buffer_count at₁ s₁ s₂ out₂ out₃ b) is-sm5 placed).ran
+          (subst (λ (p : Bool × List ℕ). BuffersPlaced chunk edits buffers variables types p.0 h.buffer_count at₁ p.1 s₂ out₂ out₃ b)
+          (λ i. (is-sm5 i, kept i)) placed).ran
           (text_placed_at types placed.after.root_types placed.after.member_types created (omega arith)) padded
           (subst (λ w. Put out₅ 0 (joined_bytes w) out₆ e₂) header_is headed)
 
@@ -177,5 +185,5 @@ module _ {h : Header} {buffers types : List ℕ} {chunk edits s s₀ : List ℕ}
       pub chunk_written : ChunkWritten chunk edits h bindings buffers variables types s s₃ out out₆ end
       chunk_written = record {
         written = subst (λ bytes. Put out 0 bytes out₆ end ⊎ TooLong bytes out out₆ end) is_canonical laid_out;
-        long = created.kept.long ∙ placed.long ∙ named.same.long ∙ begun.long;
+        long = created.kept.long ∙ placed.long ∙ ap length kept ∙ named.same.long ∙ begun.long;
       }

@@ -2,11 +2,12 @@
 pub mod Lists
 mod Many
 mod Steps
+mod Advance
+mod Writers
 mod Rows
 mod RowWords
 mod Pools
 mod NamesLoop
-mod Advance
 mod OneVariable
 mod VariablesLoop
 mod OneSection

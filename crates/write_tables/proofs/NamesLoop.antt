@@ -11,7 +11,7 @@ use Rattle.tables.specs.Decode.{records_from}
 use Rattle.tables.proofs.Records.{word_inside, word_outside}
 use Rattle.write_spec.specs.Layout.{place_outer_name, place_outer_names}
 use Rattle.write_pool.specs.Pool.{entry_count}
-use Rattle.write_texts.specs.declared.Placement.{Placement}
+use Rattle.write_texts.specs.Cursor.{Placement}
 use Rattle.write_texts.specs.Simulates.{text_facts}
 use Rattle.write_texts.specs.Scratch.{inner_start, scratch_size, outer_pool, PoolsReady}
 use Rattle.write_texts.specs.PlacedInPool.{placed_limit}
@@ -55,7 +55,7 @@ pub record NamesSoFar (chunk edits : List ℕ) (names : ℕ → Text) (count sta
   pub near : at ≤ at₀ + i * placed_limit
   pub out_long : length out ≡ length out₀
 
-module _ {chunk edits : List ℕ} {width count start step at₀ : ℕ} {s₀ : List ℕ} (ready : NamesReady chunk edits width count start step at₀ s₀) where
+module _ {chunk edits : List ℕ} {count start step at₀ : ℕ} {s₀ : List ℕ} (ready : NamesReady chunk edits count start step at₀ s₀) where
   pub names_none : {names : ℕ → Text} {out₀ : List ℕ} → NamesSoFar chunk edits names count start step at₀ s₀ out₀ s₀ out₀ at₀ 0
   unfolding records_from
   names_none {names} {out₀} =

@@ -21,7 +21,7 @@ use Rattle.write_spec.specs.Step.{padding_at}
 use Rattle.write_spec.specs.Records.{rows, variable_words_in_chunk, variable_size}
 use Rattle.write_spec.specs.Layout.{place_variables, place_section}
 use Rattle.write_pool.specs.Pool.{entry_count}
-use Rattle.write_texts.specs.declared.WriteCursor.{WriteCursor}
+use Rattle.write_texts.specs.Cursor.{WriteCursor}
 use Rattle.write_texts.specs.Simulates.{Simulates, text_facts}
 use Rattle.write_texts.specs.Bytes.{joined_bytes}
 use Rattle.write_texts.specs.Scratch.{variable_offsets_width, buffer_offsets_width, variables_start, buffers_start}
@@ -53,6 +53,11 @@ variable_rows_lem sm5 variables types s variable count =
 pub padding_near : {out out' : List ℕ} {at to : ℕ} → Put out at (replicate (padding_at at) 0xab) out' to → (at ≤ to) × (to ≤ at + 3)
 padding_near {at = at} p = omega (arith, p.next, length-replicate {A = ℕ} (padding_at at) 0xab, padding_short at)
 
+-- A variable's record is at most as long as one of major 5.
+size_most : {size : ℕ} (sm5 : Bool) → size ≡ variable_size sm5 → size ≤ variable_size true
+size_most false sized = omega (arith, sized)
+size_most true sized = omega (arith, sized)
+
 size_near : (sm5 : Bool) (count : ℕ) → 4 * (count * variable_size sm5) ≤ count * variable_stride true
 size_near false count = omega arith
 size_near true count = omega arith
@@ -71,20 +76,19 @@ module _ {chunk edits buffers types : List ℕ} {buffer variable : ℕ} {cursor 
   pub near_start : cursor.at + 100000 ≤ 3720000000
   near_start = omega (arith, ready.bounds.output, ready.root, root_below types variable (variable + count) (omega arith), few_nodes)
 
-  pub records_short : {size : ℕ} → size ≤ variable_size true → 4 * (count * size) ≤ 81920
-  records_short few = omega (arith, mul-le-mul_left count few, few_variables)
+  pub records_short : {size : ℕ} (sm5 : Bool) → size ≡ variable_size sm5 → 4 * (count * size) ≤ 81920
+  records_short sm5 sized = omega (arith, mul-le-mul_left count (size_most sm5 sized), few_variables)
 
   pub start_near : {start : ℕ} {out out₁ : List ℕ} → Put out cursor.at (replicate (padding_at cursor.at) 0xab) out₁ start → start ≤ 3719900003
   start_near padded = omega (arith, near_start, padding_near padded)
 
-  module _ {size start : ℕ} {out out₁ : List ℕ} (few : size ≤ variable_size true)
+  module _ {size start : ℕ} {out out₁ : List ℕ} (sm5 : Bool) (sized : size ≡ variable_size sm5)
       (padded : Put out cursor.at (replicate (padding_at cursor.at) 0xab) out₁ start) where
     pub variables_ready : VariablesReady chunk edits types variable count (moved_to (start + 4 * (count * size)) cursor) s
     variables_ready = record {
-      sources = ready.sources;
       pools = ready.pools;
       bounds = record {
-        output = omega (arith, ready.bounds.output, records_short few, padding_near padded);
+        output = omega (arith, ready.bounds.output, records_short sm5 sized, padding_near padded);
         names = ready.bounds.names;
         defaults = ready.bounds.defaults;
         stacked = ready.bounds.stacked;
@@ -95,8 +99,8 @@ module _ {chunk edits buffers types : List ℕ} {buffer variable : ℕ} {cursor 
       few_variables = few_variables;
     }
 
-    module _ {variables : List ℕ} {sm5 share : Bool} {end : ℕ} {s₁ out₂ out₃ : List ℕ} {to : WriteCursor} {b : BufferRecord}
-        (sized : size ≡ variable_size sm5) (is : b ≡ buffer_at buffers buffer) (is_share : share ≡ eqb b.cb_type 0)
+    module _ {variables : List ℕ} {share : Bool} {end : ℕ} {s₁ out₂ out₃ : List ℕ} {to : WriteCursor} {b : BufferRecord}
+        (is : b ≡ buffer_at buffers buffer) (is_share : share ≡ eqb b.cb_type 0)
         (placed : VariablesPlaced chunk edits variables types sm5 share variable count (moved_to (start + 4 * (count * size)) cursor) s s₁ out₁ out₂ to)
         (written : Put out₂ start (joined_bytes (rows_from (variable_row sm5 variables s₁) variable count)) out₃ end) where
       abbrev stored_at : ℕ
@@ -178,8 +182,8 @@ module _ {chunk edits buffers types : List ℕ} {buffer variable : ℕ} {cursor 
             rooted = p.rooted;
           }
 
-      pub section_placed : SectionPlaced chunk edits buffers variables types sm5 buffer cursor s s₂ out out₃ to
-      section_placed = record {
+      placed_section : SectionPlaced chunk edits buffers variables types sm5 buffer cursor s s₂ out out₃ to
+      placed_section = record {
         ran = all_ran;
         advance =
             let first = ready.first in
@@ -187,3 +191,10 @@ module _ {chunk edits buffers types : List ℕ} {buffer variable : ℕ} {cursor 
         others = λ x low other. get_or-set_other s₁ stored_at x start 0 other ∙ placed.later x low;
         near = omega (arith, placed.near, ap (λ (x : ℕ). count * x) sized, padding_near padded, size_near sm5 count);
       }
+
+      -- The records leave the scratch, and of the cursor all but the output.
+      pub section_placed : {s₁' : List ℕ} {to' : WriteCursor} → s₁' ≡ s₁ → to' ≡ to
+          → SectionPlaced chunk edits buffers variables types sm5 buffer cursor s (set s₁' stored_at start) out out₃ to'
+      section_placed kept-scratch kept-cursor =
+          subst (λ (p : List ℕ × WriteCursor). SectionPlaced chunk edits buffers variables types sm5 buffer cursor s (set p.0 stored_at start) out out₃ p.1)
+          (λ i. (sym kept-scratch i, sym kept-cursor i)) placed_section

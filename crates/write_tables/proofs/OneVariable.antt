@@ -17,19 +17,19 @@ use Rattle.reflection.specs.Limits.{type_room, variable_room}
 use Rattle.write_spec.specs.Step.{WriteStep}
 use Rattle.write_spec.specs.Layout.{place_inner_name, place_default, place_type, place_variable}
 use Rattle.write_pool.specs.Pool.{entry_count}
-use Rattle.write_texts.specs.declared.Placement.{Placement}
-use Rattle.write_texts.specs.declared.WriteCursor.{WriteCursor}
+use Rattle.write_texts.specs.Cursor.{Placement}
+use Rattle.write_texts.specs.Cursor.{WriteCursor}
 use Rattle.write_texts.specs.Simulates.{Simulates, text_facts}
 use Rattle.write_texts.specs.Scratch.{variable_offsets_width, inner_start, defaults_start, root_types_start, records_start, variables_start}
 use Rattle.write_texts.specs.Scratch.{inner_pool}
 use Rattle.write_texts.specs.Scratch.{default_pool}
 use Rattle.write_texts.specs.PlacedInScratch.{inner_room, default_room, Kept, TextPlaced}
-use Rattle.write_texts.specs.PlacedInPool.{farthest_offset}
+use Rattle.write_texts.specs.PlacedInPool.{SourcesFit, farthest_offset}
 use Rattle.write_texts.proofs.ScratchPools.{inner_kept_before, defaults_kept_after, defaults_kept_before, ready_kept}
 use Rattle.write_texts.proofs.Runs.{ran_like, ran_step}
 use Rattle.tables.specs.Trees.{tree_at, type_tree}
 use Rattle.tables.proofs.Trees.{tree_up}
-use Rattle.write_types.specs.declared.PlacedType.{PlacedType}
+use Rattle.write_types.specs.Placed.{PlacedType}
 use Rattle.write_types.specs.Room.{TypeReady}
 use Rattle.write_types.specs.TypePlaced.{RootTypePlaced}
 use Rattle.tables.specs.TableReflection.{root_at, variable_in_table}
@@ -38,13 +38,22 @@ use Rattle.write_tables.specs.Placed.{pools_at, pools_sharing}
 use Rattle.write_tables.specs.VariablesPlaced.{VariablesReady, VariablesAdvance, VariablePlaced}
 use Rattle.tables.proofs.TableOrder.{root_next}
 use Rattle.write_tables.proofs.Advance.{moved_to}
+use Rattle.write_texts.specs.Writer.{cursor_of, SameTypes}
+use Rattle.write_texts.specs.declared.writer.Writer.{Writer}
+use Rattle.write_tables.proofs.Writers.{cursor_moved}
 use Rattle.write_tables.proofs.Steps.{ran_variable}
 use Rattle.write_tables.proofs.Pools.{kept_splice, pools_at_kept, text_placed_at}
 
 -- What placing the variable's type did, with the output at so many bytes.
-abbrev TypePlacedAt : (chunk edits types : List ℕ) (sm5 share : Bool) (cursor : WriteCursor) (at : ℕ) (s s' out out' : List ℕ) (t : PlacedType) → Type 0
+abbrev pub TypePlacedAt : (chunk edits types : List ℕ) (sm5 share : Bool) (cursor : WriteCursor) (at : ℕ) (s s' out out' : List ℕ) (t : PlacedType) → Type 0
 TypePlacedAt chunk edits types sm5 share cursor at s s' out out' t =
     RootTypePlaced chunk edits types sm5 share type_levels (moved_to at cursor) s s' out out' t
+
+pub type_placed_after : {chunk edits types : List ℕ} {sm5 share : Bool} {w w₁ : Writer} {s s' out out' : List ℕ} {t : PlacedType} → SameTypes w w₁
+    → RootTypePlaced chunk edits types sm5 share type_levels (cursor_of w₁) s s' out out' t
+    → TypePlacedAt chunk edits types sm5 share (cursor_of w) w₁.out.now.at s s' out out' t
+type_placed_after {chunk} {edits} {types} {sm5} {share} {s = s} {s'} {out} {out'} {t} same typed =
+    subst (λ x. RootTypePlaced chunk edits types sm5 share type_levels x s s' out out' t) (cursor_moved same) typed
 
 module _ {chunk edits types : List ℕ} {variable : ℕ} {cursor : WriteCursor} {s : List ℕ} (ready : VariablesReady chunk edits types variable 1 cursor s) where
   after_nodes : (tree_at types type_levels cursor.node).next ≡ root_at types (variable + 1)
@@ -65,9 +74,10 @@ module _ {chunk edits types : List ℕ} {variable : ℕ} {cursor : WriteCursor} 
 
   module _ {step : WriteStep Text Text ℕ} {s₁ out out₁ : List ℕ} {a : Placement}
       (named : TextPlaced chunk edits step cursor.at inner_pool inner_start defaults_start s s₁ out out₁ a) where
-    pub type_ready : TypeReady chunk edits types type_levels 0 records_start (moved_to a.at cursor) s₁
-    type_ready = record {
-      short = ready.sources;
+    pub type_ready : {at-name : WriteCursor} → SourcesFit chunk edits → at-name ≡ moved_to a.at cursor
+        → TypeReady chunk edits types type_levels 0 records_start at-name s₁
+    type_ready sources is = subst (λ x. TypeReady chunk edits types type_levels 0 records_start x s₁) (sym is) (record {
+      short = sources;
       ready = named.ready;
       room = record {
         cursor = omega (arith, ready.bounds.output, named.near_high);
@@ -77,7 +87,7 @@ module _ {chunk edits types : List ℕ} {variable : ℕ} {cursor : WriteCursor} 
         records_high = omega arith;
       };
       within = nodes_fit;
-    }
+    })
 
     defaults_same : {sm5 share : Bool} {s₂ out₂ : List ℕ} {t : PlacedType} → TypePlacedAt chunk edits types sm5 share cursor a.at s₁ s₂ out₁ out₂ t
         → entry_count (default_pool s₂) ≡ entry_count (default_pool s)
@@ -194,5 +204,8 @@ module _ {chunk edits types : List ℕ} {variable : ℕ} {cursor : WriteCursor} 
       near = omega (arith, defaulted.near_high, typed.advanced.near, named.near_high);
     }
 
-    pub variable_placed : {s' : List ℕ} → s' ≡ s₄ → VariablePlaced chunk edits variables types sm5 share variable cursor s s' out out₃ to
-    variable_placed put = subst (λ x. VariablePlaced chunk edits variables types sm5 share variable cursor s x out out₃ to) (sym put) placed
+    pub variable_placed : {s' : List ℕ} {to' : WriteCursor} → s' ≡ s₄ → to' ≡ to
+        → VariablePlaced chunk edits variables types sm5 share variable cursor s s' out out₃ to'
+    variable_placed put is =
+        subst (λ (p : List ℕ × WriteCursor). VariablePlaced chunk edits variables types sm5 share variable cursor s p.0 out out₃ p.1)
+        (λ i. (sym put i, sym is i)) placed

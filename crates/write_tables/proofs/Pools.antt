@@ -14,7 +14,7 @@ use Rattle.reflection.specs.Reflection.{TypeDesc}
 use Rattle.tables.specs.Nodes.{type_levels}
 use Rattle.reflection.specs.Limits.{variable_room, type_room}
 use Rattle.write_spec.specs.Step.{Pools, WriteStep}
-use Rattle.write_texts.specs.declared.Placement.{Placement}
+use Rattle.write_texts.specs.Cursor.{Placement}
 use Rattle.write_texts.specs.Simulates.{Simulates}
 use Rattle.write_texts.specs.Scratch.{inner_start, defaults_start, root_types_start, records_start, scratch_size, inner_pool, default_pool}
 use Rattle.write_texts.specs.Scratch.{types_from}

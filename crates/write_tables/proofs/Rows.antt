@@ -1,5 +1,5 @@
 -- Rows written one after the other: each turn of a loop appends the bytes of one row, and a row is as long as a record.
-use mathlib.Core.Path.{◌≡◌, ap, sym, ◌∙◌, subst}
+use mathlib.Core.Path.{◌≡◌, refl, ap, sym, ◌∙◌, subst}
 use mathlib.Core.Bool.{Bool, true, false}
 use mathlib.Core.List.{List, ◌++◌, append-nil, append_assoc}
 use Prim.Native.Nat.{ℕ, zero, suc, ◌+◌, ◌*◌, ◌/◌, ◌≤◌, ◌<◌}
@@ -13,7 +13,10 @@ use Rattle.reflection.specs.Strides.{buffer_stride}
 use Rattle.write_spec.specs.Records.{variable_size, binding_words_in_chunk, binding_size}
 use Rattle.write_texts.specs.Bytes.{joined_bytes}
 use Rattle.write_texts.proofs.CellBytes.{length_joined, joined_append}
+use Rattle.write_texts.specs.declared.writer.Writer.{Writer}
 use Rattle.write_tables.specs.Offsets.{rows_from, variable_row, buffer_row, binding_row}
+use Rattle.write_tables.specs.RecordsPut.{RecordsReady, WordsPut}
+use Rattle.write_tables.proofs.Writers.{same_types, types_then}
 
 rows_snoc : (row : ℕ → List ℕ) (i n : ℕ) → rows_from row i (suc n) ≡ rows_from row i n ++ row (i + n)
 unfolding rows_from
@@ -29,31 +32,61 @@ short_rows row size i zero short = omega arith
 short_rows row size i (suc n) short =
     omega (arith, length-append (row i) (rows_from row (suc i) n), short i, short_rows row size (suc i) n short)
 
--- The loop's invariant: the first i of `count` rows from row `first` on were put.
-pub record RowsSoFar (row : ℕ → List ℕ) (first count at : ℕ) (out₀ out : List ℕ) (to i : ℕ) : Type 0 where
+-- The loop's invariant: the first i of `count` rows from row `first` on were put, whose offsets stand in the scratch.
+pub record RowsSoFar (row : List ℕ → ℕ → List ℕ) (first count : ℕ) (before after : Writer) (i : ℕ) : Type 0 where
   pub within : i ≤ count
-  pub put : Put out₀ at (joined_bytes (rows_from row first i)) out to
+  pub put : WordsPut (rows_from (row before.scratch.now) first i) before after
 
-pub rows_none : {row : ℕ → List ℕ} {first count at : ℕ} {out : List ℕ} → RowsSoFar row first count at out out at 0
+pub rows_none : {row : List ℕ → ℕ → List ℕ} {first count : ℕ} {w : Writer} → RowsSoFar row first count w w 0
 unfolding rows_from joined_bytes
-rows_none {at = at} {out} = record { within = omega arith; put = put_none out at }
+rows_none {w = w} = record { within = omega arith; put = record { put = put_none w.out.now.bytes.now w.out.now.at; scratch = refl; same = same_types w } }
 
-module _ {row : ℕ → List ℕ} {first count at : ℕ} {out₀ out : List ℕ} {to i : ℕ} (inv : RowsSoFar row first count at out₀ out to i) where
-  pub rows_more : {index to₁ : ℕ} {out₁ : List ℕ} → i < count → index ≡ first + i → Put out to (joined_bytes (row index)) out₁ to₁
-      → RowsSoFar row first count at out₀ out₁ to₁ (i + 1)
-  rows_more {index} {to₁} {out₁} more is q = record {
+module _ {row : List ℕ → ℕ → List ℕ} {first count : ℕ} {before after : Writer} {i : ℕ} (inv : RowsSoFar row first count before after i) where
+  pub rows_more : {index : ℕ} {w : Writer} → i < count → index ≡ first + i → WordsPut (row after.scratch.now index) after w
+      → RowsSoFar row first count before w (i + 1)
+  rows_more {index} {w} more is q = record {
     within = omega arith;
-    put = subst (λ bytes. Put out₀ at bytes out₁ to₁) (sym bytes) (put_then inv.put q);
+    put = record {
+      put =
+          subst (λ bytes. Put before.out.now.bytes.now before.out.now.at bytes w.out.now.bytes.now w.out.now.at) (sym bytes)
+          (put_then inv.put.put
+          (subst (λ s. Put after.out.now.bytes.now after.out.now.at (joined_bytes (row s index)) w.out.now.bytes.now w.out.now.at) inv.put.scratch q.put));
+      scratch = q.scratch ∙ inv.put.scratch;
+      same = types_then inv.put.same q.same;
+    };
   }
     where
-      bytes : joined_bytes (rows_from row first (i + 1)) ≡ joined_bytes (rows_from row first i) ++ joined_bytes (row index)
+      rows : ℕ → List ℕ
+      rows = row before.scratch.now
+
+      bytes : joined_bytes (rows_from rows first (i + 1)) ≡ joined_bytes (rows_from rows first i) ++ joined_bytes (rows index)
       bytes =
-          ap (λ (k : ℕ). joined_bytes (rows_from row first k)) (add-one i) ∙ ap joined_bytes (rows_snoc row first i)
-          ∙ joined_append (rows_from row first i) (row (first + i)) ∙ ap (λ (k : ℕ). joined_bytes (rows_from row first i) ++ joined_bytes (row k)) (sym is)
+          ap (λ (k : ℕ). joined_bytes (rows_from rows first k)) (add-one i) ∙ ap joined_bytes (rows_snoc rows first i)
+          ∙ joined_append (rows_from rows first i) (rows (first + i)) ∙ ap (λ (k : ℕ). joined_bytes (rows_from rows first i) ++ joined_bytes (rows k)) (sym is)
+
+  pub rows_all : count ≤ i → WordsPut (rows_from (row before.scratch.now) first count) before after
+  rows_all all =
+      let e : i ≡ count = omega (arith, inv.within) in
+      subst (λ n. WordsPut (rows_from (row before.scratch.now) first n) before after) e inv.put
 
   -- How far the cursor then is.
-  pub rows_near : {size : ℕ} → ((j : ℕ) → length (row j) ≤ size) → to ≤ at + 4 * (i * size)
-  rows_near {size} short = omega (arith, inv.put.next, length_joined (rows_from row first i), short_rows row size first i short)
+  rows_near : {size : ℕ} → ((j : ℕ) → length (row before.scratch.now j) ≤ size) → after.out.now.at ≤ before.out.now.at + 4 * (i * size)
+  rows_near {size} short =
+      omega (
+        arith,
+        inv.put.put.next,
+        length_joined (rows_from (row before.scratch.now) first i),
+        short_rows (row before.scratch.now) size first i short,
+      )
+
+  -- There is room for one more: the rows before it are short.
+  pub row_ready : {next next' room size : ℕ} → RecordsReady next room 100000 before → next' ≤ next
+      → ((j : ℕ) → length (row before.scratch.now j) ≤ size) → 4 * (i * size) ≤ 100000 → RecordsReady next' room 0 after
+  row_ready ready fewer short few = record {
+    long = omega (arith, ready.long, ap length inv.put.scratch);
+    few = omega (arith, ready.few, fewer);
+    near = omega (arith, ready.near, rows_near short, few);
+  }
 
 -- How long a row is at most.
 pub short_variable_row : (sm5 : Bool) (variables s : List ℕ) (variable : ℕ) → length (variable_row sm5 variables s variable) ≤ variable_size true

@@ -9,7 +9,7 @@ use lib.ListN.{length}
 use Rattle.tables.specs.Decode.{records_from}
 use Rattle.reflection.specs.Limits.{variable_room}
 use Rattle.write_spec.specs.Layout.{place_sections}
-use Rattle.write_texts.specs.declared.WriteCursor.{WriteCursor}
+use Rattle.write_texts.specs.Cursor.{WriteCursor}
 use Rattle.write_texts.specs.Simulates.{text_facts}
 use Rattle.write_texts.specs.Scratch.{buffer_offsets_width, buffers_start}
 use Rattle.write_texts.proofs.Runs.{ran_long}
@@ -49,10 +49,10 @@ pub record SectionsSoFar (chunk edits buffers variables types : List ℕ) (sm5 :
   pub out_long : length out ≡ length out₀
 
 module _ {chunk edits buffers types : List ℕ} {count at : ℕ} {s₀ : List ℕ} (ready : SectionsReady chunk edits buffers types count at s₀) where
-  pub sections_none : {variables : List ℕ} {sm5 : Bool} {out₀ : List ℕ}
+  nothing_placed : {variables : List ℕ} {sm5 : Bool} {out₀ : List ℕ}
       → SectionsSoFar chunk edits buffers variables types sm5 count at s₀ out₀ s₀ out₀ (beginning at) 0 0
   unfolding records_from first_variable root_at
-  sections_none {variables} {sm5} {out₀} =
+  nothing_placed {variables} {sm5} {out₀} =
       let f = buffer_in_table buffers variables types in
       let many = place_sections (text_facts chunk edits) sm5 in
       let whole = ap (records_from f 0) (let e : count ≡ count - 0 = omega arith in e) in
@@ -68,6 +68,11 @@ module _ {chunk edits buffers types : List ℕ} {count at : ℕ} {s₀ : List �
         out_long = refl;
       }
 
+  pub sections_none : {variables : List ℕ} {sm5 : Bool} {out₀ : List ℕ} {cursor : WriteCursor} → cursor ≡ beginning at
+      → SectionsSoFar chunk edits buffers variables types sm5 count at s₀ out₀ s₀ out₀ cursor 0 0
+  sections_none {variables} {sm5} {out₀} is =
+      subst (λ x. SectionsSoFar chunk edits buffers variables types sm5 count at s₀ out₀ s₀ out₀ x 0 0) (sym is) nothing_placed
+
   module _ {variables : List ℕ} {sm5 : Bool} {out₀ s out : List ℕ} {cursor : WriteCursor} {variable buffer : ℕ}
       (inv : SectionsSoFar chunk edits buffers variables types sm5 count at s₀ out₀ s out cursor variable buffer) (more : buffer < count) where
     is_first : 0 + first_variable buffers buffer ≡ variable
@@ -76,7 +81,6 @@ module _ {chunk edits buffers types : List ℕ} {count at : ℕ} {s₀ : List �
     -- There is room for one more.
     pub section_ready : SectionReady chunk edits buffers types buffer variable cursor s
     section_ready = record {
-      sources = ready.sources;
       pools = inv.advance.ready;
       bounds =
           subst (λ x. CursorBounds x 100000 cursor s) is_first

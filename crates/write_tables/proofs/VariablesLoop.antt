@@ -8,7 +8,7 @@ use native.Mathlib.Omega.{arith}
 use lib.ListN.{length, get_or}
 use Rattle.tables.specs.Decode.{records_from}
 use Rattle.write_spec.specs.Layout.{place_variables}
-use Rattle.write_texts.specs.declared.WriteCursor.{WriteCursor}
+use Rattle.write_texts.specs.Cursor.{WriteCursor}
 use Rattle.write_texts.specs.Simulates.{text_facts}
 use Rattle.write_texts.specs.Scratch.{buffers_start}
 use Rattle.write_texts.proofs.Runs.{ran_long}
@@ -62,7 +62,6 @@ module _ {chunk edits types : List ℕ} {variable count : ℕ} {start : WriteCur
     -- There is room for one more.
     pub one_ready : VariablesReady chunk edits types (variable + done) 1 cursor s
     one_ready = record {
-      sources = ready.sources;
       pools = inv.advance.ready;
       bounds = bounds_after inv.advance ready.bounds (omega (arith, inv.near));
       root = inv.advance.next;

@@ -5,11 +5,10 @@ use Rattle.tables.specs.Decode.{records_from}
 use Rattle.reflection.specs.Limits.{type_room, variable_room, buffer_room}
 use Rattle.write_spec.specs.Layout.{place_section, place_sections, place_buffers}
 use Rattle.write_pool.specs.Pool.{entry_count}
-use Rattle.write_texts.specs.declared.Placement.{Placement}
-use Rattle.write_texts.specs.declared.WriteCursor.{WriteCursor}
+use Rattle.write_texts.specs.Cursor.{Placement}
+use Rattle.write_texts.specs.Cursor.{WriteCursor}
 use Rattle.write_texts.specs.Simulates.{Simulates, text_facts}
 use Rattle.write_texts.specs.Scratch.{buffer_offsets_width, buffers_start, outer_pool, inner_pool, default_pool, PoolsReady}
-use Rattle.write_texts.specs.PlacedInPool.{SourcesFit}
 use Rattle.write_texts.specs.PlacedInScratch.{outer_room}
 use Rattle.write_types.specs.Room.{node_bytes}
 use Rattle.tables.specs.TableReflection.{root_at, count_at, first_variable, buffer_in_table}
@@ -24,7 +23,6 @@ pub record CountsFit (buffers types : List ℕ) (count : ℕ) : Type 0 where
 
 -- The section of a buffer can be placed, whose first variable is `variable`: the cursor is at that variable's node, and there is room.
 pub record SectionReady (chunk edits buffers types : List ℕ) (buffer variable : ℕ) (cursor : WriteCursor) (s : List ℕ) : Type 0 where
-  pub sources : SourcesFit chunk edits
   pub pools : PoolsReady chunk edits s
   pub bounds : CursorBounds variable 100000 cursor s
   pub first : variable ≡ first_variable buffers buffer
@@ -47,7 +45,6 @@ beginning at = record { at = at; node = 0; member_types = 0; root_types = 0 }
 
 -- The sections of the first `count` buffers can be placed.
 pub record SectionsReady (chunk edits buffers types : List ℕ) (count at : ℕ) (s : List ℕ) : Type 0 where
-  pub sources : SourcesFit chunk edits
   pub pools : PoolsReady chunk edits s
   pub bounds : CursorBounds 0 200000 (beginning at) s
   pub fit : CountsFit buffers types count
@@ -71,7 +68,6 @@ pub record NothingPlaced (count at : ℕ) (s : List ℕ) : Type 0 where
 
 -- The first `count` buffers can be placed.
 pub record BuffersReady (chunk edits buffers types : List ℕ) (count at : ℕ) (s : List ℕ) : Type 0 where
-  pub sources : SourcesFit chunk edits
   pub pools : PoolsReady chunk edits s
   pub nothing : NothingPlaced count at s
   pub fit : CountsFit buffers types count

@@ -8,10 +8,10 @@ use Rattle.tables.specs.Decode.{records_from}
 use Rattle.write_spec.specs.Step.{Pools}
 use Rattle.write_spec.specs.Layout.{place_outer_names}
 use Rattle.write_pool.specs.Pool.{entry_count}
-use Rattle.write_texts.specs.declared.WriteCursor.{WriteCursor}
+use Rattle.write_texts.specs.Cursor.{WriteCursor}
 use Rattle.write_texts.specs.Simulates.{Simulates, text_facts}
 use Rattle.write_texts.specs.Scratch.{inner_start, root_types_start, variables_start, scratch_size, outer_pool, types_from, pools_in, PoolsReady}
-use Rattle.write_texts.specs.PlacedInPool.{SourcesFit, farthest_offset, placed_limit}
+use Rattle.write_texts.specs.PlacedInPool.{farthest_offset, placed_limit}
 use Rattle.write_texts.specs.PlacedInScratch.{outer_room}
 use Rattle.tables.specs.Trees.{type_tree}
 
@@ -36,11 +36,9 @@ name_at width table i = text_at (record_word width table i) 0
 unfoldable pub stored_at : ℕ → ℕ → List ℕ → ℕ → ℕ
 stored_at start step s i = get_or s (start + i * step) 0
 
--- The names of `count` bindings or buffers can be placed, and there is room for their offsets. A record has a name's three words.
-pub record NamesReady (chunk edits : List ℕ) (width count start step at : ℕ) (s : List ℕ) : Type 0 where
-  pub sources : SourcesFit chunk edits
+-- The names of `count` bindings or buffers can be placed, and there is room for their offsets.
+pub record NamesReady (chunk edits : List ℕ) (count start step at : ℕ) (s : List ℕ) : Type 0 where
   pub pools : PoolsReady chunk edits s
-  pub wide : 3 ≤ width
   pub stored : variables_start ≤ start
   pub apart : 1 ≤ step
   pub inside : start + count * step ≤ scratch_size

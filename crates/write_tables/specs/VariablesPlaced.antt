@@ -5,10 +5,9 @@ use Rattle.tables.specs.Decode.{records_from}
 use Rattle.reflection.specs.Limits.{type_room, variable_room}
 use Rattle.write_spec.specs.Layout.{place_variable, place_variables}
 use Rattle.write_pool.specs.Pool.{entry_count}
-use Rattle.write_texts.specs.declared.WriteCursor.{WriteCursor}
+use Rattle.write_texts.specs.Cursor.{WriteCursor}
 use Rattle.write_texts.specs.Simulates.{Simulates, text_facts}
 use Rattle.write_texts.specs.Scratch.{variable_offsets_width, variables_start, buffers_start, inner_pool, default_pool, PoolsReady}
-use Rattle.write_texts.specs.PlacedInPool.{SourcesFit}
 use Rattle.write_types.specs.Room.{node_bytes}
 use Rattle.tables.specs.TableReflection.{root_at, variable_in_table}
 use Rattle.write_tables.specs.Offsets.{variable_offsets}
@@ -25,7 +24,6 @@ pub record CursorBounds (variable spare : ℕ) (cursor : WriteCursor) (s : List 
 
 -- `count` variables from `variable` on can be placed: the cursor is at the first one's node, and there is room for all of them.
 pub record VariablesReady (chunk edits types : List ℕ) (variable count : ℕ) (cursor : WriteCursor) (s : List ℕ) : Type 0 where
-  pub sources : SourcesFit chunk edits
   pub pools : PoolsReady chunk edits s
   pub bounds : CursorBounds variable 0 cursor s
   pub root : cursor.node ≡ root_at types variable

@@ -1,31 +1,15 @@
 // The buffers: their names, the section of each, and their records.
-ghost use Rattle.std.specs.Prelude.{◌≡◌, true, ◌≤◌};
-ghost use Rattle.write_spec.specs.Records.{variable_size};
+ghost use Rattle.std.specs.Prelude.{◌≡◌};
 ghost use Rattle.tables.specs.TableReflection.{count_at};
-ghost use Rattle.write_tables.specs.BuffersPlaced.{SectionReady, SectionPlaced, SectionsReady, SectionsPlaced, BuffersReady, BuffersPlaced};
+ghost use Rattle.write_texts.specs.Writer.{cursor_of, placed_at, SameLent};
+ghost use Rattle.write_tables.specs.BuffersPlaced.{SectionReady, SectionPlaced, SectionsReady, SectionsPlaced, BuffersReady, BuffersPlaced, beginning};
 
-use crate::names::place_outer_names;
-use crate::records::{put_buffer_records, put_variable_records};
+use crate::names::NamedTable;
+use crate::records::{BUFFER_SIZE, put_buffer_records, put_variable_records, variable_size};
 use crate::variables::place_variables;
 use reflection::BUFFER_WORDS;
-use write_texts::{BUFFER_OFFSETS, BUFFERS_START, Placement, WriteCursor};
-
-// How many words a buffer's record takes in the chunk, and a variable's.
-const BUFFER_SIZE: usize = reflection::BUFFER_STRIDE as usize / 4;
-
-const VARIABLE_SIZE: usize = reflection::VARIABLE_STRIDE as usize / 4;
-
-const SM5_VARIABLE_SIZE: usize = reflection::SM5_VARIABLE_STRIDE as usize / 4;
-
-fn variable_size(sm5: bool) -> usize
-    ensures { (result ≡ variable_size sm5) × (result ≤ variable_size true) }
-{
-    if sm5 {
-        SM5_VARIABLE_SIZE
-    } else {
-        VARIABLE_SIZE
-    }
-}
+use tables::Reflection;
+use write_texts::{BUFFER_OFFSETS, BUFFERS_START, Source, Writer};
 
 // How many variables a buffer counts.
 fn count_at(buffers: &[u32], buffer: usize) -> usize
@@ -35,121 +19,79 @@ fn count_at(buffers: &[u32], buffer: usize) -> usize
 }
 
 // Places the section of a buffer: padding, the records of its variables, the first of which is `variable`, and what they point to.
-fn place_section<'a>(
-    chunk: &'a [u8],
-    edits: &'a [u8],
-    buffers: &[u32],
-    variables: &[u32],
-    types: &[u32],
-    scratch: &mut [u32],
-    out: &mut [u8],
-    cursor: WriteCursor,
+fn place_section(
+    source: Source<'_>,
+    r: Reflection<'_>,
+    w: &mut Writer<'_, '_>,
     buffer: usize,
     variable: usize,
-    sm5: bool,
-) -> WriteCursor
-    requires { SectionReady chunk.now edits.now buffers.now types.now buffer variable cursor scratch.old }
-    ensures { SectionPlaced chunk.now edits.now buffers.now variables.now types.now sm5
-        buffer cursor scratch.old scratch.new out.old out.new result }
+)
+    requires { SectionReady source.texts.chunk.now source.texts.edits.now r.buffers.now source.types.now buffer variable (cursor_of w.old) w.old.scratch.now }
+    ensures placed { SectionPlaced source.entry.texts.chunk.now source.entry.texts.edits.now r.entry.buffers.now r.entry.variables.now
+        source.entry.types.now source.entry.sm5 buffer (cursor_of w.old) w.old.scratch.now w.new.scratch.now
+        w.old.out.now.bytes.now w.new.out.now.bytes.now (cursor_of w.new) }
+    ensures same { SameLent w.old w.new }
 {
-    let fields = tables::buffer_at(buffers, buffer);
-    let count = count_at(buffers, buffer);
-    let start = write_texts::put_padding(out, cursor.at);
-    let behind = WriteCursor {
-        at: start + 4 * (count * variable_size(sm5)),
-        ..cursor
-    };
-    let reached = place_variables(
-        chunk,
-        edits,
-        variables,
-        types,
-        scratch,
-        out,
-        behind,
-        variable,
-        count,
-        fields.cb_type == 0,
-        sm5,
-    );
-    put_variable_records(variables, scratch, out, start, variable, count, sm5);
-    scratch[BUFFERS_START + buffer * BUFFER_OFFSETS + 1] = start as u32;
-    reached
+    let fields = tables::buffer_at(r.buffers, buffer);
+    let count = count_at(r.buffers, buffer);
+    write_texts::put_padding(w.out);
+    let start = w.out.at;
+    w.out.at = start + 4 * (count * variable_size(source.sm5));
+    place_variables(source, r.variables, w, variable, count, fields.cb_type == 0);
+    let end = w.out.at;
+    w.out.at = start;
+    put_variable_records(r.variables, w, variable, count, source.sm5);
+    w.out.at = end;
+    w.scratch[BUFFERS_START + buffer * BUFFER_OFFSETS + 1] = start as u32;
 }
 
 // Places the sections of the first `count` buffers, before which no type is placed.
-fn place_sections<'a>(
-    chunk: &'a [u8],
-    edits: &'a [u8],
-    buffers: &[u32],
-    variables: &[u32],
-    types: &[u32],
-    scratch: &mut [u32],
-    out: &mut [u8],
-    at: usize,
-    count: usize,
-    sm5: bool,
-) -> WriteCursor
-    requires { SectionsReady chunk.now edits.now buffers.now types.now count at scratch.old }
-    ensures { SectionsPlaced chunk.now edits.now buffers.now variables.now types.now sm5
-        count at scratch.old scratch.new out.old out.new result }
+fn place_sections(source: Source<'_>, r: Reflection<'_>, w: &mut Writer<'_, '_>, count: usize)
+    requires ready { SectionsReady source.texts.chunk.now source.texts.edits.now r.buffers.now source.types.now count w.old.out.now.at w.old.scratch.now }
+    requires no_types { cursor_of w.old ≡ beginning w.old.out.now.at }
+    ensures placed { SectionsPlaced source.entry.texts.chunk.now source.entry.texts.edits.now r.entry.buffers.now r.entry.variables.now
+        source.entry.types.now source.entry.sm5 count w.old.out.now.at w.old.scratch.now w.new.scratch.now
+        w.old.out.now.bytes.now w.new.out.now.bytes.now (cursor_of w.new) }
+    ensures same { SameLent w.old w.new }
 {
-    let mut cursor = WriteCursor {
-        at,
-        node: 0,
-        member_types: 0,
-        root_types: 0,
-    };
     let mut variable = 0;
     for buffer in 0..count {
-        cursor = place_section(
-            chunk, edits, buffers, variables, types, scratch, out, cursor, buffer, variable, sm5,
-        );
-        variable += count_at(buffers, buffer);
+        place_section(source, r, w, buffer, variable);
+        variable += count_at(r.buffers, buffer);
     }
-    cursor
 }
 
-// Places the first `count` buffers: padding, their records, their names and their sections. The answer is where the records begin, 0 where there are none,
-// and the cursor.
-pub fn place_buffers<'a>(
-    chunk: &'a [u8],
-    edits: &'a [u8],
-    buffers: &[u32],
-    variables: &[u32],
-    types: &[u32],
-    scratch: &mut [u32],
-    out: &mut [u8],
-    at: usize,
+// Places the first `count` buffers: padding, their records, their names and their sections. The answer is where the records begin, 0 where there are none.
+pub fn place_buffers(
+    source: Source<'_>,
+    r: Reflection<'_>,
+    w: &mut Writer<'_, '_>,
     count: usize,
-    sm5: bool,
-) -> Placement
-    requires { BuffersReady chunk.now edits.now buffers.now types.now count at scratch.old }
-    ensures { BuffersPlaced chunk.now edits.now buffers.now variables.now types.now sm5
-        count at scratch.old scratch.new out.old out.new result }
+) -> u32
+    requires ready { BuffersReady source.texts.chunk.now source.texts.edits.now r.buffers.now source.types.now count w.old.out.now.at w.old.scratch.now }
+    requires no_types { cursor_of w.old ≡ beginning w.old.out.now.at }
+    ensures placed { BuffersPlaced source.entry.texts.chunk.now source.entry.texts.edits.now r.entry.buffers.now r.entry.variables.now
+        source.entry.types.now source.entry.sm5 count w.old.out.now.at w.old.scratch.now w.new.scratch.now
+        w.old.out.now.bytes.now w.new.out.now.bytes.now (placed_at result w.new) }
+    ensures same { SameLent w.old w.new }
 {
     if count == 0 {
-        return Placement { offset: 0, at };
+        return 0;
     }
-    let records = write_texts::put_padding(out, at);
-    let named = place_outer_names(
-        chunk,
-        edits,
-        buffers,
-        BUFFER_WORDS,
-        count,
-        BUFFERS_START,
-        BUFFER_OFFSETS,
-        scratch,
-        out,
-        records + 4 * (count * BUFFER_SIZE),
-    );
-    let reached = place_sections(
-        chunk, edits, buffers, variables, types, scratch, out, named, count, sm5,
-    );
-    put_buffer_records(buffers, scratch, out, records, count);
-    Placement {
-        offset: records as u32,
-        at: reached.at,
-    }
+    write_texts::put_padding(w.out);
+    let records = w.out.at;
+    w.out.at = records + 4 * (count * BUFFER_SIZE);
+    let names = NamedTable {
+        table: r.buffers,
+        width: BUFFER_WORDS,
+        start: BUFFERS_START,
+        step: BUFFER_OFFSETS,
+    };
+    names.place(source, w, count);
+    place_sections(source, r, w, count);
+    let end = w.out.at;
+    w.out.at = records;
+    put_buffer_records(r.buffers, w, count);
+    w.out.at = end;
+    records as u32
 }

@@ -1,41 +1,19 @@
 // The whole chunk: the bindings and their names, the buffers, the creator, and last the header.
-ghost use Rattle.std.specs.Prelude.{◌≡◌, true, ◌+◌, ◌*◌, ◌≤◌, length};
-ghost use Rattle.write_spec.specs.Records.{binding_size, header_word_count};
+ghost use Rattle.std.specs.Prelude.{◌≡◌, ◌≤◌, length};
 ghost use Rattle.write_texts.specs.Scratch.{scratch_size};
 ghost use Rattle.write_texts.specs.PlacedInPool.{SourcesFit};
 ghost use Rattle.tables.specs.TableReflection.{Sized};
+ghost use Rattle.write_texts.specs.Writer.{cursor_of, SameLent};
+ghost use Rattle.write_tables.specs.BuffersPlaced.{beginning};
 ghost use Rattle.write_tables.specs.Chunk.{PoolsBegun, ChunkWritten};
 
 use crate::buffers::place_buffers;
-use crate::names::place_outer_names;
-use crate::records::{put_binding_records, put_header};
-use reflection::{BINDING_WORDS, ResourceDef};
-use write_texts::{BINDINGS_START, DEFAULTS_START, INNER_START, ROOT_TYPES_START};
-
-// How many words a binding's record and the header take in the chunk.
-const BINDING_SIZE: usize = reflection::BINDING_STRIDE as usize / 4;
-
-const WIDE_BINDING_SIZE: usize = reflection::WIDE_BINDING_STRIDE as usize / 4;
-
-const HEADER_SIZE: usize = reflection::HEADER_SIZE as usize / 4;
-
-const RD11_HEADER_SIZE: usize = reflection::RD11_HEADER_SIZE as usize / 4;
-
-fn binding_size(wide: bool) -> usize
-    ensures { (result ≡ binding_size wide) × (result ≤ binding_size true) }
-{
-    if wide {
-        WIDE_BINDING_SIZE
-    } else {
-        BINDING_SIZE
-    }
-}
-
-fn header_size(sm5: bool) -> usize
-    ensures { (result ≡ header_word_count sm5) × (result ≤ header_word_count true) }
-{
-    if sm5 { RD11_HEADER_SIZE } else { HEADER_SIZE }
-}
+use crate::names::NamedTable;
+use crate::records::{binding_size, header_size, put_binding_records, put_header};
+use reflection::{BINDING_WORDS, Texts};
+use tables::Reflection;
+use text_output::Output;
+use write_texts::{BINDINGS_START, DEFAULTS_START, INNER_START, ROOT_TYPES_START, Source, Writer};
 
 // Makes the three pools of texts empty.
 fn begin_pools(scratch: &mut [u32])
@@ -47,57 +25,68 @@ fn begin_pools(scratch: &mut [u32])
     write_pool::begin(&mut scratch[DEFAULTS_START..ROOT_TYPES_START]);
 }
 
+// Writes the chunk with a writer that has placed nothing; the answer is how many bytes it has.
+fn place_chunk<'a>(texts: Texts<'a>, r: Reflection<'a>, w: &mut Writer<'_, '_>) -> usize
+    requires sources_fit { SourcesFit texts.chunk.now texts.edits.now }
+    requires sized { Sized r.def r.buffers.now r.types.now }
+    requires scratch_size_in_bounds { scratch_size ≤ length w.old.scratch.now }
+    requires no_types { cursor_of w.old ≡ beginning w.old.out.now.at }
+    ensures written { ChunkWritten texts.entry.chunk.now texts.entry.edits.now r.entry.def r.entry.bindings.now r.entry.buffers.now
+        r.entry.variables.now r.entry.types.now w.old.scratch.now w.new.scratch.now w.old.out.now.bytes.now w.new.out.now.bytes.now result }
+    ensures same { SameLent w.old w.new }
+{
+    begin_pools(w.scratch);
+    let sm5 = reflection::is_sm5(r.def);
+    let wide = reflection::is_wide(r.def);
+    let source = Source {
+        texts,
+        types: r.types,
+        sm5,
+    };
+    let start = 4 * header_size(sm5);
+    let count = r.def.binding_count as usize;
+    w.out.at = start + 4 * (count * binding_size(wide));
+    let names = NamedTable {
+        table: r.bindings,
+        width: BINDING_WORDS,
+        start: BINDINGS_START,
+        step: 1,
+    };
+    names.place(source, w, count);
+    let behind = w.out.at;
+    w.out.at = start;
+    put_binding_records(r.bindings, w, count, wide);
+    w.out.at = behind;
+    let buffers = place_buffers(source, r, w, r.def.buffer_count as usize);
+    let creator = w.place_inner_name(source, r.def.creator);
+    write_texts::put_padding(w.out);
+    let end = w.out.at;
+    w.out.at = 0;
+    put_header(r.def, buffers, creator, w.out);
+    end
+}
+
 // Writes the canonical form of the reflection that the header and the tables hold; the answer is how many bytes it has. What lies past the output's end is
 // dropped.
 pub fn write_chunk<'a>(
-    chunk: &'a [u8],
-    edits: &'a [u8],
-    def: ResourceDef,
-    bindings: &[u32],
-    buffers: &[u32],
-    variables: &[u32],
-    types: &[u32],
+    texts: Texts<'a>,
+    r: Reflection<'a>,
     scratch: &mut [u32],
     out: &mut [u8],
 ) -> usize
-    requires sources_fit { SourcesFit chunk.now edits.now }
-    requires sized { Sized def buffers.now types.now }
+    requires sources_fit { SourcesFit texts.chunk.now texts.edits.now }
+    requires sized { Sized r.def r.buffers.now r.types.now }
     requires scratch_size_in_bounds { scratch_size ≤ length scratch.old }
-    ensures { ChunkWritten chunk.now edits.now def bindings.now buffers.now variables.now
-        types.now scratch.old scratch.new out.old out.new result }
+    ensures { ChunkWritten texts.entry.chunk.now texts.entry.edits.now r.entry.def r.entry.bindings.now r.entry.buffers.now r.entry.variables.now
+        r.entry.types.now scratch.old scratch.new out.old out.new result }
 {
-    begin_pools(scratch);
-    let sm5 = reflection::is_sm5(def);
-    let wide = reflection::is_wide(def);
-    let start = 4 * header_size(sm5);
-    let count = def.binding_count as usize;
-    let named = place_outer_names(
-        chunk,
-        edits,
-        bindings,
-        BINDING_WORDS,
-        count,
-        BINDINGS_START,
-        1,
+    let mut written = Output { bytes: out, at: 0 };
+    let mut w = Writer {
         scratch,
-        out,
-        start + 4 * (count * binding_size(wide)),
-    );
-    put_binding_records(bindings, scratch, out, start, count, wide);
-    let placed = place_buffers(
-        chunk,
-        edits,
-        buffers,
-        variables,
-        types,
-        scratch,
-        out,
-        named,
-        def.buffer_count as usize,
-        sm5,
-    );
-    let creator = write_texts::place_inner_name(chunk, edits, def.creator, scratch, out, placed.at);
-    let end = write_texts::put_padding(out, creator.at);
-    put_header(def, placed.offset, creator.offset, sm5, out);
-    end
+        out: &mut written,
+        node: 0,
+        member_types: 0,
+        root_types: 0,
+    };
+    place_chunk(texts, r, &mut w)
 }

@@ -7,27 +7,28 @@ use mathlib.Core.List.{List, [], ◌∷◌, ◌++◌}
 use Prim.Native.Nat.{ℕ, ◌+◌, ◌≤◌}
 use native.Mathlib.Omega.{arith}
 use lib.Dec.{eqb}
-use lib.ListN.{length, replicate, drop, length-append, length-take, length-drop}
+use lib.ListN.{length, replicate, drop, length-replicate, length-append, length-take, length-drop}
 use Rattle.words.specs.Parts.{inside, part}
 use Rattle.words.proofs.Parts.{part_inside, part_outside}
-use Rattle.words.specs.Splice.{Put}
+use Rattle.words.specs.Splice.{Put, splice}
+use Rattle.words.proofs.Splice.{splice_append}
 use Rattle.text.specs.Same.{same_bytes}
 use Rattle.reflection.specs.declared.Text.{Text}
 use Rattle.reflection.specs.Texts.{text_bytes}
 use Rattle.reflection.specs.Limits.{chunk_limit}
-use Rattle.write_spec.specs.Step.{Pools, WriteStep, padding_at, find, interned, unless_empty, cells_of, default_byte}
+use Rattle.write_spec.specs.Step.{Pools, WriteStep, padding_at, find, interned, cells_of, default_byte}
 use Rattle.write_spec.specs.Layout.{name_cells}
 use Rattle.write_spec.specs.Canonical.{bytes_facts}
 use Rattle.write_spec.specs.Through.{through}
 use Rattle.write_pool.specs.Pool.{Indexed, entries, bucket_of, Remembered}
 use Rattle.write_texts.specs.Simulates.{Simulates, text_facts}
-use Rattle.write_texts.specs.PlacedInPool.{SourcesFit, HasRoom, Grown, placed_limit, write_name, write_default, place_name, place_default_text}
-use Rattle.write_texts.specs.PlacedInPool.{PlacedInPool}
-use Rattle.write_texts.specs.PlacedInPool.{TextPool, outer_names, inner_names, default_texts, entries_of, with_entries, add_text}
-use Rattle.write_texts.specs.declared.Placement.{Placement}
+use Rattle.write_texts.specs.PlacedInPool.{SourcesFit, HasRoom, Grown, placed_limit, PlacedInPool}
+use Rattle.write_texts.specs.PlacedInPool.{TextPool, OuterNames, InnerNames, Defaults, entries_of, with_entries, add_text}
+use Rattle.write_texts.specs.PlacedInPool.{write_name, write_text, same_text, place_text, text_written, text_start}
+use Rattle.write_texts.specs.Cursor.{Placement}
 use Rattle.write_texts.proofs.CellBytes.{cell_bytes_name, cell_bytes_default}
-use Rattle.write_bytes.proofs.Stores.{padded_near}
-use Rattle.write_texts.proofs.Runs.{ran_bind, ran_append, ran_pad, simulates_add_to_pool, ran_empty, ran_unless_empty}
+use Rattle.write_bytes.proofs.Stores.{padding_short}
+use Rattle.write_texts.proofs.Runs.{ran_bind, ran_append, ran_pad, simulates_add_to_pool}
 use Rattle.write_texts.proofs.Runs.{simulates_interned_found, simulates_interned_fresh, ran_like}
 
 -- a text is no longer than the buffer that it lies in
@@ -53,11 +54,22 @@ text_short {chunk} {edits} short text = by_source (eqb text.source 0) (eqb text.
     by_source false true = omega (arith, length_part_up edits text.place text.length, short.edits_short)
     by_source false false = omega arith
 
+-- one run that was put in two parts
+module _ {l l' : List ℕ} (xs ys : List ℕ) {a r n : ℕ} (p : Put l a (xs ++ ys) l' r) (e : length xs ≡ n) where
+  put_first : Put l a xs (splice l a xs) (a + n)
+  put_first = record { list = refl; next = ap (λ (k : ℕ). a + k) (sym e) }
+
+  put_rest : Put (splice l a xs) (a + n) ys l' r
+  put_rest = record {
+    list = p.list ∙ sym (splice_append l a xs ys) ∙ ap (λ (k : ℕ). splice (splice l a xs) (a + k) ys) e;
+    next = omega (arith, p.next, length-append xs ys, e);
+  }
+
 -- the pools with a pool's own entries are what they were
 with_own : (texts : TextPool) (ps : Pools Text Text) → ps ≡ with_entries texts (entries_of texts ps) ps
-with_own outer_names ps = refl
-with_own inner_names ps = refl
-with_own default_texts ps = refl
+with_own OuterNames ps = refl
+with_own InnerNames ps = refl
+with_own Defaults ps = refl
 
 module _ (chunk edits : List ℕ) where
   -- what a search for a text's bytes finds among entries
@@ -86,14 +98,14 @@ module _ (chunk edits : List ℕ) where
   }
 
   -- a text that is looked up; `write add` is what is done for one that is not there, and remembers it by `add`
-  module _ (text : Text) (write : (ℕ → Pools Text Text → Pools Text Text) → WriteStep Text Text ℕ) where
-    abbrev looked_up : TextPool → WriteStep Text Text ℕ
-    looked_up texts = interned true (λ ps. search text (entries_of texts ps)) (write (add_text texts text))
+  module _ (texts : TextPool) (text : Text) (write : (ℕ → Pools Text Text → Pools Text Text) → WriteStep Text Text ℕ) where
+    abbrev looked_up : WriteStep Text Text ℕ
+    looked_up = interned true (λ ps. search text (entries_of texts ps)) (write (add_text texts text))
 
     module _ {at : ℕ} {pool out wanted : List ℕ} {looked : Option ℕ} (open-pool : HasRoom chunk edits pool) (l : Looked text pool wanted looked) where
-      text_found : {offset : ℕ} → looked ≡ Some offset → PlacedInPool chunk edits looked_up at pool pool out out (record { offset = offset; at = at })
+      text_found : {offset : ℕ} → looked ≡ Some offset → PlacedInPool chunk edits texts looked_up at pool pool out out (record { offset = offset; at = at })
       text_found {offset} known = record {
-        ran = λ texts ps e.
+        ran = λ ps e.
             ran_like chunk edits refl (with_own texts ps ∙ ap (λ (es : List (Text × ℕ)). with_entries texts es ps) e) refl
             (simulates_interned_found chunk edits (λ qs. search text (entries_of texts qs)) (write (add_text texts text)) offset at ps out
             (ap (search text) e ∙ look_is l ∙ known));
@@ -102,86 +114,88 @@ module _ (chunk edits : List ℕ) where
         near_high = omega arith;
       }
 
-      text_fresh : {pool' out' : List ℕ} {offset to bucket : ℕ} → looked ≡ None → bucket ≡ bucket_of wanted → Remembered pool text bucket offset pool'
-          → at ≤ to → to ≤ at + placed_limit
+      text_fresh : {pool' out' : List ℕ} {offset to : ℕ} → looked ≡ None → Remembered pool text (bucket_of wanted) offset pool' → at ≤ to → to ≤ at + placed_limit
           → ((add : ℕ → Pools Text Text → Pools Text Text) (ps : Pools Text Text) → Simulates chunk edits (write add) at ps out out' offset to (add offset ps))
-          → PlacedInPool chunk edits looked_up at pool pool' out out' (record { offset = offset; at = to })
-      text_fresh {offset = offset} absent bucket-is remembered low high written = record {
-        ran = λ texts ps e.
+          → PlacedInPool chunk edits texts looked_up at pool pool' out out' (record { offset = offset; at = to })
+      text_fresh {offset = offset} absent remembered low high written = record {
+        ran = λ ps e.
             let one_more = ap (λ (es : List (Text × ℕ)). (text, offset) ∷ es) e ∙ sym remembered.one_entry_more in
             ran_like chunk edits refl (ap (λ (es : List (Text × ℕ)). with_entries texts es ps) one_more) refl
             (simulates_interned_fresh chunk edits (λ qs. search text (entries_of texts qs)) (ap (search text) e ∙ look_is l ∙ absent)
             (written (add_text texts text) ps));
-        pool_grown = grown_one open-pool.indexed (bucket-is ∙ ap bucket_of l.wanted-is) remembered;
+        pool_grown = grown_one open-pool.indexed (ap bucket_of l.wanted-is) remembered;
         near_low = low;
         near_high = high;
       }
 
-  -- what is not empty
-  placed_unless_empty : {n at : ℕ} {step : TextPool → WriteStep Text Text ℕ} {pool pool' out out' : List ℕ} {r : Placement} → (n ≡ 0 → ⊥)
-      → PlacedInPool chunk edits step at pool pool' out out' r → PlacedInPool chunk edits (λ texts. unless_empty n (step texts)) at pool pool' out out' r
-  placed_unless_empty {n} some-there placed = record {
-    ran = λ texts ps e. ran_unless_empty chunk edits n some-there (placed.ran texts ps e);
-    pool_grown = placed.pool_grown;
-    near_low = placed.near_low;
-    near_high = placed.near_high;
-  }
+  -- what is written for a text, in cells and in bytes
+  name_ran : (name : Text) {at offset to : ℕ} {out out' : List ℕ} → offset ≡ at → Put out at (text_bytes chunk edits name ++ (0 ∷ [])) out' to
+      → (add : ℕ → Pools Text Text → Pools Text Text) (ps : Pools Text Text)
+      → Simulates chunk edits (write_name (text_facts chunk edits) name add) at ps out out' offset to (add offset ps)
+  name_ran name {at} {to = to} {out' = out'} starts put add ps =
+      rw starts
+      (ran_bind chunk edits _ (ran_append chunk edits (name_cells (text_facts chunk edits) name) (cell_bytes_name chunk edits name) put)
+      (simulates_add_to_pool chunk edits add at to ps out'))
 
-  -- names
-  module _ (name : Text) {at : ℕ} {pool out wanted : List ℕ} {looked : Option ℕ} (open-pool : HasRoom chunk edits pool) (l : Looked name pool wanted looked) where
-    pub name_found : {offset : ℕ} → looked ≡ Some offset
-        → PlacedInPool chunk edits (place_name (text_facts chunk edits) name) at pool pool out out (record { offset = offset; at = at })
-    unfolding text_facts through bytes_facts
-    name_found known = text_found name (write_name (text_facts chunk edits) name) open-pool l known
+  text_ran : (texts : TextPool) (text : Text) {at offset to : ℕ} {out out' : List ℕ} → offset ≡ text_start texts at
+      → Put out at (text_written texts at (text_bytes chunk edits text)) out' to → (add : ℕ → Pools Text Text → Pools Text Text) (ps : Pools Text Text)
+      → Simulates chunk edits (write_text (text_facts chunk edits) texts text add) at ps out out' offset to (add offset ps)
+  unfolding text_facts through bytes_facts
+  text_ran OuterNames name starts put add ps = name_ran name starts put add ps
+  text_ran InnerNames name starts put add ps = name_ran name starts put add ps
+  text_ran Defaults default {at} {to = to} {out' = out'} starts put add ps =
+      let padded = put_first (replicate (padding_at at) 0xab) _ put (length-replicate {A = ℕ} (padding_at at) 0xab) in
+      rw starts (
+      ran_bind chunk edits _ (ran_pad chunk edits padded)
+      (ran_bind chunk edits _
+      (ran_append chunk edits (cells_of (length (text_bytes chunk edits default)) (default_byte default)) (cell_bytes_default chunk edits default)
+      (put_rest (replicate (padding_at at) 0xab) _ put (length-replicate {A = ℕ} (padding_at at) 0xab)))
+      (simulates_add_to_pool chunk edits add (at + padding_at at) to ps out')))
 
-    pub name_fresh : {pool' out' : List ℕ} {to bucket : ℕ} → looked ≡ None → SourcesFit chunk edits → bucket ≡ bucket_of wanted
-        → Put out at (wanted ++ (0 ∷ [])) out' to → Remembered pool name bucket at pool'
-        → PlacedInPool chunk edits (place_name (text_facts chunk edits) name) at pool pool' out out' (record { offset = at; at = to })
-    unfolding text_facts through bytes_facts
-    name_fresh {pool'} {out'} {to} absent short bucket-is put remembered =
-        let put-name = subst (λ w. Put out at (w ++ (0 ∷ [])) out' to) l.wanted-is put in
-        text_fresh name (write_name (text_facts chunk edits) name) open-pool l absent bucket-is remembered (omega (arith, put-name.next))
-        (omega (arith, put-name.next, length-append (text_bytes chunk edits name) (0 ∷ []), text_short short name))
-        (λ add ps.
-        ran_bind chunk edits _ (ran_append chunk edits (name_cells (text_facts chunk edits) name) (cell_bytes_name chunk edits name) put-name)
-        (simulates_add_to_pool chunk edits add at to ps out'))
+  text_near : (texts : TextPool) (text : Text) {at to : ℕ} {out out' : List ℕ} → SourcesFit chunk edits
+      → Put out at (text_written texts at (text_bytes chunk edits text)) out' to → to ≤ at + placed_limit
+  text_near OuterNames name short put = omega (arith, put.next, length-append (text_bytes chunk edits name) (0 ∷ []), text_short short name)
+  text_near InnerNames name short put = omega (arith, put.next, length-append (text_bytes chunk edits name) (0 ∷ []), text_short short name)
+  text_near Defaults default {at} short put =
+      omega (
+        arith,
+        put.next,
+        length-append (replicate (padding_at at) 0xab) (text_bytes chunk edits default),
+        length-replicate {A = ℕ} (padding_at at) 0xab,
+        padding_short at,
+        text_short short default,
+      )
 
-  -- defaults
-  not_empty : {default : Text} {pool wanted : List ℕ} {looked : Option ℕ} → Looked default pool wanted looked → (length wanted ≡ 0 → ⊥)
-      → length (text_bytes chunk edits default) ≡ 0 → ⊥
-  not_empty l some-there e = some-there (ap length l.wanted-is ∙ e)
+  -- texts are the same where their bytes are
+  same_by_bytes : (texts : TextPool) (text : Text)
+      → same_text (text_facts chunk edits) texts text ≡ (λ (t : Text). same_bytes (text_bytes chunk edits text) (text_bytes chunk edits t))
+  unfolding text_facts through bytes_facts
+  same_by_bytes OuterNames name = refl
+  same_by_bytes InnerNames name = refl
+  same_by_bytes Defaults default = refl
 
-  module _ (default : Text) {at : ℕ} {pool out wanted : List ℕ} (open-pool : HasRoom chunk edits pool) where
-    pub default-empty : wanted ≡ text_bytes chunk edits default → length wanted ≡ 0
-        → PlacedInPool chunk edits (place_default_text (text_facts chunk edits) default) at pool pool out out (record { offset = 0; at = at })
-    unfolding text_facts through bytes_facts
-    default-empty wanted-is none-there = record {
-      ran = λ texts ps e.
-          ran_like chunk edits refl (with_own texts ps ∙ ap (λ (es : List (Text × ℕ)). with_entries texts es ps) e) refl
-          (ran_empty chunk edits (length (text_bytes chunk edits default)) _ at ps out (ap length (sym wanted-is) ∙ none-there));
-      pool_grown = grown_none pool open-pool.indexed;
-      near_low = omega arith;
-      near_high = omega arith;
-    }
+  looks_alike : (texts : TextPool) (text : Text) {at : ℕ} {pool pool' out out' : List ℕ} {r : Placement}
+      → PlacedInPool chunk edits texts (looked_up texts text (write_text (text_facts chunk edits) texts text)) at pool pool' out out' r
+      → PlacedInPool chunk edits texts (place_text (text_facts chunk edits) texts text) at pool pool' out out' r
+  looks_alike texts text {at} {pool} {pool'} {out} {out'} {r} =
+      subst
+      (λ (same : Text → Bool).
+      PlacedInPool chunk edits texts (interned true (λ ps. find same (entries_of texts ps)) (write_text (text_facts chunk edits) texts text (add_text texts text)))
+      at pool pool' out out' r)
+      (sym (same_by_bytes texts text))
 
-    module _ {looked : Option ℕ} (l : Looked default pool wanted looked) (some-there : length wanted ≡ 0 → ⊥) where
-      pub default_found : {offset : ℕ} → looked ≡ Some offset
-          → PlacedInPool chunk edits (place_default_text (text_facts chunk edits) default) at pool pool out out (record { offset = offset; at = at })
-      unfolding text_facts through bytes_facts
-      default_found known = placed_unless_empty (not_empty l some-there) (text_found default (write_default (text_facts chunk edits) default) open-pool l known)
+  -- a text placed through its pool: it was found, or it was written and remembered
+  module _ (texts : TextPool) (text : Text) {at : ℕ} {pool out wanted : List ℕ} {looked : Option ℕ}
+      (open-pool : HasRoom chunk edits pool) (l : Looked text pool wanted looked) where
+    pub placed_found : {offset : ℕ} → looked ≡ Some offset
+        → PlacedInPool chunk edits texts (place_text (text_facts chunk edits) texts text) at pool pool out out (record { offset = offset; at = at })
+    placed_found known = looks_alike texts text (text_found texts text (write_text (text_facts chunk edits) texts text) open-pool l known)
 
-      pub default_fresh : {pool' out₁ out₂ : List ℕ} {start to bucket : ℕ} → looked ≡ None → SourcesFit chunk edits → bucket ≡ bucket_of wanted
-          → Put out at (replicate (padding_at at) 0xab) out₁ start → Put out₁ start wanted out₂ to → Remembered pool default bucket start pool'
-          → PlacedInPool chunk edits (place_default_text (text_facts chunk edits) default) at pool pool' out out₂ (record { offset = start; at = to })
-      unfolding text_facts through bytes_facts
-      default_fresh {pool'} {out₁} {out₂} {start} {to} absent short bucket-is padded put remembered =
-          let put-default = subst (λ w. Put out₁ start w out₂ to) l.wanted-is put in
-          placed_unless_empty (not_empty l some-there)
-          (text_fresh default (write_default (text_facts chunk edits) default) open-pool l absent bucket-is remembered
-          (omega (arith, padded.next, put-default.next))
-          (omega (arith, padded_near padded, put-default.next, text_short short default))
-          (λ add ps.
-          ran_bind chunk edits _ (ran_pad chunk edits padded)
-          (ran_bind chunk edits _
-          (ran_append chunk edits (cells_of (length (text_bytes chunk edits default)) (default_byte default)) (cell_bytes_default chunk edits default) put-default)
-          (simulates_add_to_pool chunk edits add start to ps out₂))))
+    pub placed_fresh : {pool' out' : List ℕ} {offset to : ℕ} → looked ≡ None → SourcesFit chunk edits → offset ≡ text_start texts at
+        → Put out at (text_written texts at wanted) out' to → Remembered pool text (bucket_of wanted) offset pool'
+        → PlacedInPool chunk edits texts (place_text (text_facts chunk edits) texts text) at pool pool' out out' (record { offset = offset; at = to })
+    placed_fresh {out' = out'} {to = to} absent short starts put remembered =
+        let put-text = subst (λ w. Put out at (text_written texts at w) out' to) l.wanted-is put in
+        looks_alike texts text
+        (text_fresh texts text (write_text (text_facts chunk edits) texts text) open-pool l absent remembered (omega (arith, put.next))
+        (text_near texts text short put-text) (text_ran texts text starts put-text))

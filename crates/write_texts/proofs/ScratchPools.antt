@@ -9,7 +9,7 @@ use Rattle.reflection.specs.declared.Text.{Text}
 use Rattle.reflection.specs.Reflection.{TypeDesc}
 use Rattle.write_spec.specs.Step.{pools}
 use Rattle.write_pool.specs.Pool.{Indexed, entries}
-use Rattle.write_texts.specs.PlacedInPool.{TextPool, outer_names, inner_names, default_texts, with_entries}
+use Rattle.write_texts.specs.PlacedInPool.{TextPool, OuterNames, InnerNames, Defaults, with_entries}
 use Rattle.write_texts.specs.Scratch.{outer_pool, inner_pool, default_pool, types_from, pools_in, PoolsReady}
 use Rattle.write_texts.specs.Scratch.{shared_width, inner_start, defaults_start, root_types_start, member_types_start, scratch_size}
 use Rattle.write_texts.specs.PlacedInScratch.{start_of, end_of, words_of, Kept}
@@ -56,19 +56,19 @@ module _ {chunk edits s s' : List ℕ} (ready : PoolsReady chunk edits s) where
   -- the region of one pool of texts changed, and that pool is in order
   pub ready_with : (texts : TextPool) → Kept (start_of texts) (end_of texts) s s' → Indexed chunk edits (words_of texts s') → PoolsReady chunk edits s'
   unfolding outer_pool inner_pool default_pool
-  ready_with outer_names kept indexed = record {
+  ready_with OuterNames kept indexed = record {
     long = length_kept kept ready.long;
     outer = indexed;
     inner = still (inner_kept_after kept ready.long (omega arith)) ready.inner;
     defaults = still (defaults_kept_after kept ready.long (omega arith)) ready.defaults;
   }
-  ready_with inner_names kept indexed = record {
+  ready_with InnerNames kept indexed = record {
     long = length_kept kept ready.long;
     outer = still (outer_kept_before kept ready.long (omega arith)) ready.outer;
     inner = indexed;
     defaults = still (defaults_kept_after kept ready.long (omega arith)) ready.defaults;
   }
-  ready_with default_texts kept indexed = record {
+  ready_with Defaults kept indexed = record {
     long = length_kept kept ready.long;
     outer = still (outer_kept_before kept ready.long (omega arith)) ready.outer;
     inner = still (inner_kept_before kept ready.long (omega arith)) ready.inner;
@@ -78,13 +78,13 @@ module _ {chunk edits s s' : List ℕ} (ready : PoolsReady chunk edits s) where
   pub pools_with : (texts : TextPool) → Kept (start_of texts) (end_of texts) s s' → (types : List (TypeDesc Text × ℕ)) (tree : ℕ → TypeDesc Text) (base n : ℕ)
       → pools_in s' types tree base n ≡ with_entries texts (entries (words_of texts s')) (pools_in s types tree base n)
   unfolding pools_in outer_pool inner_pool default_pool
-  pools_with outer_names kept types tree base n =
+  pools_with OuterNames kept types tree base n =
       pools_from s' types tree base n refl (inner_kept_after kept ready.long (omega arith)) (defaults_kept_after kept ready.long (omega arith))
       (types_kept_after kept tree member_types_start base n (omega arith))
-  pools_with inner_names kept types tree base n =
+  pools_with InnerNames kept types tree base n =
       pools_from s' types tree base n (outer_kept_before kept ready.long (omega arith)) refl (defaults_kept_after kept ready.long (omega arith))
       (types_kept_after kept tree member_types_start base n (omega arith))
-  pools_with default_texts kept types tree base n =
+  pools_with Defaults kept types tree base n =
       pools_from s' types tree base n (outer_kept_before kept ready.long (omega arith)) (inner_kept_before kept ready.long (omega arith)) refl
       (types_kept_after kept tree member_types_start base n (omega arith))
 

@@ -1,3 +1,5 @@
+pub mod Cursor
+pub mod Writer
 pub mod Simulates
 pub mod Scratch
 pub mod Bytes

@@ -6,10 +6,10 @@ use Rattle.reflection.specs.Reflection.{TypeDesc}
 use Rattle.write_spec.specs.Step.{WriteStep}
 use Rattle.write_pool.specs.Pool.{entries_start, entry_width, entry_count}
 use Rattle.write_texts.specs.Simulates.{Simulates}
-use Rattle.write_texts.specs.PlacedInPool.{placed_limit, TextPool, outer_names, inner_names, default_texts}
+use Rattle.write_texts.specs.PlacedInPool.{placed_limit, TextPool, OuterNames, InnerNames, Defaults}
 use Rattle.write_texts.specs.Scratch.{outer_size, inner_size, defaults_size, inner_start, defaults_start, root_types_start, region, PoolsReady}
 use Rattle.write_texts.specs.Scratch.{pools_in}
-use Rattle.write_texts.specs.declared.Placement.{Placement}
+use Rattle.write_texts.specs.Cursor.{Placement}
 
 -- How many entries a pool of so many words has room for: 1,433, 8,396 and 2,252 (docs/ROOM.md).
 abbrev pub pool_room : ℕ → ℕ
@@ -26,14 +26,17 @@ default_room = pool_room defaults_size
 
 -- The region of the scratch that a pool of texts stands in: where it begins and ends, and its words.
 abbrev pub start_of : TextPool → ℕ
-start_of outer_names = 0
-start_of inner_names = inner_start
-start_of default_texts = defaults_start
+start_of OuterNames = 0
+start_of InnerNames = inner_start
+start_of Defaults = defaults_start
 
 abbrev pub end_of : TextPool → ℕ
-end_of outer_names = inner_start
-end_of inner_names = defaults_start
-end_of default_texts = root_types_start
+end_of OuterNames = inner_start
+end_of InnerNames = defaults_start
+end_of Defaults = root_types_start
+
+abbrev pub room_of : TextPool → ℕ
+room_of texts = pool_room (end_of texts - start_of texts)
 
 abbrev pub words_of : TextPool → List ℕ → List ℕ
 words_of texts s = region (start_of texts) (end_of texts) s

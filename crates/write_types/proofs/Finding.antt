@@ -1,11 +1,14 @@
--- Looking a type up among the entries of a region, newest first: each turn leaves one entry less, and the first equal one is found.
-use Rattle.std.specs.Prelude.{None, Some}
+-- Looking a type up among the entries of a region, newest first: each turn leaves one entry less, and the first equal one is found. Past the limit nothing is
+-- looked up.
+use Rattle.std.specs.Prelude.{Option, None, Some, cond, ltb}
+use mathlib.Core.Logic.{◌⊎◌, inl, inr}
+use Rattle.std.proofs.lemmas.Option.{none-some}
 use mathlib.Core.Path.{◌≡◌, refl, sym, ap, ◌∙◌}
 use mathlib.Core.Bool.{Bool, true, false}
 use mathlib.Core.List.{List, ◌∷◌}
 use Prim.Native.Nat.{ℕ, zero, suc, ◌+◌, ◌*◌, ◌-◌, ◌≤◌, ◌<◌}
 use native.Mathlib.Omega.{arith}
-use borrow.Author.Tests.{eq-eqb, ne_eqb}
+use borrow.Author.Tests.{eq-eqb, ne_eqb, ltb-true}
 use lib.ListN.{get_or}
 use Rattle.reflection.specs.declared.Text.{Text}
 use Rattle.reflection.specs.declared.TypeDesc.{TypeDesc as TypeRecord}
@@ -14,10 +17,11 @@ use Rattle.tables.specs.Records.{type_at}
 use Rattle.tables.specs.Decode.{node_from_table}
 use Rattle.write_spec.specs.Step.{find}
 use Rattle.write_spec.specs.Same.{same_type}
+use Rattle.write_texts.specs.Simulates.{chunk_limit}
 use Rattle.write_texts.specs.Scratch.{shared_width, types_from}
 use Rattle.tables.specs.Trees.{node_at, type_tree}
 use Rattle.compare_types.specs.Same.{same_name}
-use Rattle.write_types.specs.TypePlaced.{type_offset, shared_offset}
+use Rattle.write_types.specs.TypePlaced.{type_offset, shared_offset, known_offset}
 
 module _ (chunk edits types : List ℕ) (levels node : ℕ) (s : List ℕ) (start base : ℕ) where
   abbrev same_as : TypeDesc Text → Bool
@@ -67,3 +71,26 @@ module _ (chunk edits types : List ℕ) (levels node : ℕ) (s : List ℕ) (star
   pub unshared_fresh : (count : ℕ) (share : Bool) → share ≡ false → shared_offset share chunk edits types levels node s start base count ≡ None
   unfolding shared_offset
   unshared_fresh count share e = rw e
+
+  -- Where the type is not to be written, and where it is.
+  module _ (count at : ℕ) (share : Bool) {known : Option ℕ} (is_known : known ≡ known_offset share chunk edits types levels node s start base count at) where
+    abbrev looked-up : Option ℕ
+    looked-up = shared_offset share chunk edits types levels node s start base count
+
+    known_by : (past : Bool) → ltb chunk_limit at ≡ past → known ≡ cond past (Some 0) looked-up
+    unfolding known_offset
+    known_by past e = is_known ∙ ap (λ (b : Bool). cond b (Some 0) looked-up) e
+
+    pub known_some : {offset : ℕ} → known ≡ Some offset → (chunk_limit < at) ⊎ (looked-up ≡ Some offset)
+    known_some {offset} found = go (ltb chunk_limit at) refl
+      where
+        go : (past : Bool) → ltb chunk_limit at ≡ past → (chunk_limit < at) ⊎ (looked-up ≡ Some offset)
+        go true e = inl (ltb-true chunk_limit at e)
+        go false e = inr (sym (known_by false e) ∙ found)
+
+    pub known_none : known ≡ None → looked-up ≡ None
+    known_none absent = go (ltb chunk_limit at) refl
+      where
+        go : (past : Bool) → ltb chunk_limit at ≡ past → looked-up ≡ None
+        go true e = absurd (none-some 0 (sym absent ∙ known_by true e))
+        go false e = sym (known_by false e) ∙ absent

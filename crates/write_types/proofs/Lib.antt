@@ -1,4 +1,5 @@
 pub mod Ready
+pub mod Handed
 pub mod Stacks
 pub mod Finding
 pub mod Putting

@@ -1,6 +1,7 @@
 -- A member's type: found among the types of the members before it, or written with a pool of its own for its members; then it is one entry more, above those
 -- that were there, and the entries of its own members are dropped.
 use Rattle.std.specs.Prelude.{Option, Some, None}
+use mathlib.Core.Logic.{inl, inr}
 use mathlib.Core.Path.{◌≡◌, refl, sym, ap, ◌∙◌, subst}
 use mathlib.Core.Bool.{Bool, true}
 use mathlib.Core.List.{List, [], ◌∷◌}
@@ -13,7 +14,7 @@ use Rattle.reflection.specs.Reflection.{TypeDesc}
 use Rattle.write_spec.specs.Step.{pools, in_member_pool, enter_member, leave_member, add_type}
 use Rattle.write_spec.specs.Layout.{place_type}
 use Rattle.write_pool.specs.Pool.{entries, entry_count}
-use Rattle.write_texts.specs.declared.WriteCursor.{WriteCursor}
+use Rattle.write_texts.specs.Cursor.{WriteCursor}
 use Rattle.write_texts.specs.Simulates.{text_facts, chunk_limit, Simulates}
 use Rattle.write_texts.specs.Scratch.{shared_width, member_types_start, types_from, pools_in}
 use Rattle.write_texts.specs.PlacedInScratch.{Kept}
@@ -22,8 +23,9 @@ use Rattle.write_texts.proofs.ScratchPools.{ready_kept}
 use Rattle.tables.specs.Trees.{tree_at, type_tree}
 use Rattle.write_types.specs.Trees.{member_tree}
 use Rattle.write_types.specs.Room.{TypeReady, Keeps}
-use Rattle.write_types.specs.TypePlaced.{shared_offset, TypeWritten, MemberTypePlaced}
-use Rattle.write_types.specs.declared.PlacedType.{PlacedType}
+use Rattle.write_types.specs.TypePlaced.{shared_offset, known_offset, TypeWritten, MemberTypePlaced}
+use Rattle.write_types.specs.Placed.{PlacedType}
+use Rattle.write_types.proofs.Finding.{known_some, known_none}
 use Rattle.write_types.proofs.Ready.{with_node_lem, with_members, entry_room, stays}
 use Rattle.write_types.proofs.Stacks.{SameTexts, write_kept, texts_kept, entry_pushed, keeps_same, keeps_then, keeps_entries}
 use Rattle.write_types.proofs.Sharing.{looked, type_found, type_fresh, looked_is}
@@ -54,8 +56,8 @@ module _ {chunk edits types : List ℕ} {levels base records-top : ℕ} {cursor 
   }
 
   -- Past the limit of a chunk nothing is looked up or written.
-  pub member_past : {sm5 : Bool} {next : ℕ} {out : List ℕ} → chunk_limit < cursor.at → next ≡ (tree_at types levels cursor.node).next
-      → MemberTypePlaced chunk edits types sm5 levels base records-top cursor s s out out (record { offset = 0; cursor = with_node_lem cursor next })
+  member_past : {sm5 : Bool} {offset next : ℕ} {out : List ℕ} → chunk_limit < cursor.at → next ≡ (tree_at types levels cursor.node).next
+      → MemberTypePlaced chunk edits types sm5 levels base records-top cursor s s out out (record { offset = offset; cursor = with_node_lem cursor next })
   member_past past is-next = unwritten is-next (λ ts. ran_past chunk edits _ _ past (omega arith) refl)
 
   module _ (looked-up : Option ℕ) (look : looked-up ≡ shared_offset true chunk edits types levels cursor.node s member_types_start base count) where
@@ -74,7 +76,7 @@ module _ {chunk edits types : List ℕ} {levels base records-top : ℕ} {cursor 
     unfolding pools_in
     pools_found ts = refl
 
-    pub member_found : {sm5 : Bool} {offset next : ℕ} {out : List ℕ} → looked-up ≡ Some offset → next ≡ (tree_at types levels cursor.node).next
+    member_found : {sm5 : Bool} {offset next : ℕ} {out : List ℕ} → looked-up ≡ Some offset → next ≡ (tree_at types levels cursor.node).next
         → MemberTypePlaced chunk edits types sm5 levels base records-top cursor s s out out (record { offset = offset; cursor = with_node_lem cursor next })
     member_found {sm5} found is-next =
         unwritten is-next
@@ -132,3 +134,16 @@ module _ {chunk edits types : List ℕ} {levels base records-top : ℕ} {cursor 
         same_roots = written.same_roots;
         one = omega arith;
       }
+
+  -- By what the code looked up.
+  module _ {known : Option ℕ} (is_known : known ≡ known_offset true chunk edits types levels cursor.node s member_types_start base count cursor.at) where
+    pub member_known : {sm5 : Bool} {offset next : ℕ} {out : List ℕ} → known ≡ Some offset → next ≡ (tree_at types levels cursor.node).next
+        → MemberTypePlaced chunk edits types sm5 levels base records-top cursor s s out out (record { offset = offset; cursor = with_node_lem cursor next })
+    member_known found is-next =
+        elim (known_some chunk edits types levels cursor.node s member_types_start base count cursor.at true is_known found) [
+          | inl past ↦ member_past past is-next
+          | inr e ↦ member_found _ refl e is-next
+        ]
+
+    pub member_new : known ≡ None → shared_offset true chunk edits types levels cursor.node s member_types_start base count ≡ None
+    member_new = known_none chunk edits types levels cursor.node s member_types_start base count cursor.at true is_known

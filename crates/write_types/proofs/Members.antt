@@ -19,8 +19,8 @@ use Rattle.write_texts.specs.Simulates.{text_facts, Simulates}
 use Rattle.write_texts.specs.Scratch.{member_width, inner_start, defaults_start, variables_start, region, inner_pool, pools_in}
 use Rattle.write_texts.specs.PlacedInScratch.{inner_room, Kept, TextPlaced}
 use Rattle.write_texts.specs.PlacedInPool.{farthest_offset}
-use Rattle.write_texts.specs.declared.Placement.{Placement}
-use Rattle.write_texts.specs.declared.WriteCursor.{WriteCursor}
+use Rattle.write_texts.specs.Cursor.{Placement}
+use Rattle.write_texts.specs.Cursor.{WriteCursor}
 use Rattle.write_texts.proofs.Runs.{ran_bind, ran_return, ran_like}
 use Rattle.write_texts.proofs.Regions.{region_agree}
 use Rattle.write_texts.proofs.ScratchPools.{inner_kept_before, ready_kept, pools_kept_before}
@@ -29,7 +29,7 @@ use Rattle.tables.proofs.Trees.{member_left, members_none, members_more, members
 use Rattle.write_types.specs.Trees.{member_tree, members_from}
 use Rattle.write_types.specs.Room.{NodeRoom, MembersReady, TypeReady, Keeps}
 use Rattle.write_types.specs.TypePlaced.{Advanced, MemberTypePlaced, MembersPlaced}
-use Rattle.write_types.specs.declared.PlacedType.{PlacedType}
+use Rattle.write_types.specs.Placed.{PlacedType}
 use Rattle.write_types.proofs.Ready.{with_at}
 use Rattle.write_types.proofs.Stacks.{write_kept, words_pushed, region_none, keeps_same, keeps_then, keeps_names, keeps_records}
 

@@ -15,7 +15,7 @@ use Rattle.tables.specs.Decode.{node_from_table}
 use Rattle.write_spec.specs.Step.{◌>>=◌, append, pad, padding_at, word_cells}
 use Rattle.write_spec.specs.Records.{halves, type_words_in_chunk}
 use Rattle.write_texts.specs.Bytes.{joined_bytes}
-use Rattle.write_texts.specs.declared.Placement.{Placement}
+use Rattle.write_texts.specs.Cursor.{Placement}
 use Rattle.write_texts.specs.Scratch.{member_width}
 use Rattle.write_texts.proofs.CellBytes.{length_joined, joined_append}
 use Rattle.write_texts.proofs.Stores.{padding_short}

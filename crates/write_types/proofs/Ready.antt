@@ -5,7 +5,7 @@ use Prim.Native.Nat.{ℕ, ◌+◌, ◌*◌, ◌≤◌, ◌<◌}
 use native.Mathlib.Omega.{arith}
 use Rattle.reflection.specs.Limits.{type_room}
 use Rattle.write_pool.specs.Pool.{entry_count}
-use Rattle.write_texts.specs.declared.WriteCursor.{WriteCursor}
+use Rattle.write_texts.specs.Cursor.{WriteCursor}
 use Rattle.write_texts.specs.Scratch.{shared_width, member_types_start, records_start, inner_pool}
 use Rattle.write_texts.specs.PlacedInScratch.{inner_room}
 use Rattle.write_texts.specs.PlacedInPool.{farthest_offset}
@@ -35,6 +35,21 @@ module _ {chunk edits types : List ℕ} {levels base records-top : ℕ} {cursor 
 
   pub entry_room : member_types_start + (base + cursor.member_types) * shared_width + shared_width ≤ records_start
   entry_room = omega (arith, start.room.stacked, node_early)
+
+  -- The types of its own members begin after those that lie on the stack.
+  pub down_ready : TypeReady chunk edits types levels (base + cursor.member_types) records-top (with_members cursor 0) s
+  down_ready = record {
+    short = start.short;
+    ready = start.ready;
+    room = record {
+      cursor = start.room.cursor;
+      names = start.room.names;
+      stacked = omega (arith, start.room.stacked);
+      records_low = start.room.records_low;
+      records_high = start.room.records_high;
+    };
+    within = start.within;
+  }
 
   -- Nothing was written, and the writer stands after the type's nodes.
   pub stays : {next entries-left : ℕ} → next ≡ (tree_at types levels cursor.node).next → entries-left ≤ 1

@@ -1,6 +1,7 @@
 -- A variable's type: found among the types of the variables before it, or written; then it is one entry more where it may be shared. The types of members lie
 -- on a stack of their own, which is the whole chunk's.
 use Rattle.std.specs.Prelude.{Option, Some, None}
+use mathlib.Core.Logic.{inl, inr}
 use mathlib.Core.Path.{◌≡◌, refl, sym, ap, ◌∙◌}
 use mathlib.Core.Bool.{Bool, true, false}
 use mathlib.Core.List.{List, [], ◌∷◌}
@@ -14,7 +15,7 @@ use Rattle.reflection.specs.Limits.{variable_room}
 use Rattle.write_spec.specs.Step.{Pools, pools, add_type}
 use Rattle.write_spec.specs.Layout.{place_type}
 use Rattle.write_pool.specs.Pool.{entries, entry_count}
-use Rattle.write_texts.specs.declared.WriteCursor.{WriteCursor}
+use Rattle.write_texts.specs.Cursor.{WriteCursor}
 use Rattle.write_texts.specs.Simulates.{text_facts, chunk_limit, Simulates}
 use Rattle.write_texts.specs.Scratch.{shared_width, inner_start, defaults_start, root_types_start, member_types_start, records_start}
 use Rattle.write_texts.specs.Scratch.{outer_pool, default_pool, types_from, pools_in}
@@ -25,8 +26,9 @@ use Rattle.write_texts.proofs.ScratchPools.{ready_kept}
 use Rattle.tables.specs.Trees.{tree_at, type_tree}
 use Rattle.write_types.specs.Trees.{member_tree}
 use Rattle.write_types.specs.Room.{TypeReady}
-use Rattle.write_types.specs.TypePlaced.{shared_offset, TypeWritten, RootTypePlaced}
-use Rattle.write_types.specs.declared.PlacedType.{PlacedType}
+use Rattle.write_types.specs.TypePlaced.{shared_offset, known_offset, TypeWritten, RootTypePlaced}
+use Rattle.write_types.specs.Placed.{PlacedType}
+use Rattle.write_types.proofs.Finding.{known_some, known_none}
 use Rattle.write_types.proofs.Ready.{with_node_lem, stays}
 use Rattle.write_types.proofs.Stacks.{SameTexts, write_kept, texts_kept, entry_pushed}
 use Rattle.write_types.proofs.Sharing.{looked, type_found, type_fresh, looked_is}
@@ -65,8 +67,8 @@ module _ {chunk edits types : List ℕ} {levels : ℕ} {cursor : WriteCursor} {s
   }
 
   -- Past the limit of a chunk nothing is looked up or written.
-  pub root_past : {sm5 share : Bool} {next : ℕ} {out : List ℕ} → chunk_limit < cursor.at → next ≡ (tree_at types levels cursor.node).next
-      → RootTypePlaced chunk edits types sm5 share levels cursor s s out out (record { offset = 0; cursor = with_node_lem cursor next })
+  root_past : {sm5 share : Bool} {offset next : ℕ} {out : List ℕ} → chunk_limit < cursor.at → next ≡ (tree_at types levels cursor.node).next
+      → RootTypePlaced chunk edits types sm5 share levels cursor s s out out (record { offset = offset; cursor = with_node_lem cursor next })
   root_past past is-next = unwritten is-next (ran_past chunk edits _ _ past (omega arith) refl)
 
   module _ (share : Bool) (looked-up : Option ℕ)
@@ -75,7 +77,7 @@ module _ {chunk edits types : List ℕ} {levels : ℕ} {cursor : WriteCursor} {s
     unfolding pools_in
     looked_here count = looked_is chunk edits share types levels cursor.node s root_types_start 0 roots ∙ sym look
 
-    pub root_found : {sm5 : Bool} {offset next : ℕ} {out : List ℕ} → looked-up ≡ Some offset → next ≡ (tree_at types levels cursor.node).next
+    root_found : {sm5 : Bool} {offset next : ℕ} {out : List ℕ} → looked-up ≡ Some offset → next ≡ (tree_at types levels cursor.node).next
         → RootTypePlaced chunk edits types sm5 share levels cursor s s out out (record { offset = offset; cursor = with_node_lem cursor next })
     root_found {sm5} found is-next =
         unwritten is-next (type_found chunk edits sm5 share (tree cursor.node) (looked_here cursor.member_types ∙ found))
@@ -177,3 +179,17 @@ module _ {chunk edits types : List ℕ} {levels : ℕ} {cursor : WriteCursor} {s
           roots_more = omega arith;
           one_root = omega arith;
         }
+
+  -- By what the code looked up.
+  module _ (share : Bool) {known : Option ℕ}
+      (is_known : known ≡ known_offset share chunk edits types levels cursor.node s root_types_start 0 roots cursor.at) where
+    pub root_known : {sm5 : Bool} {offset next : ℕ} {out : List ℕ} → known ≡ Some offset → next ≡ (tree_at types levels cursor.node).next
+        → RootTypePlaced chunk edits types sm5 share levels cursor s s out out (record { offset = offset; cursor = with_node_lem cursor next })
+    root_known found is-next =
+        elim (known_some chunk edits types levels cursor.node s root_types_start 0 roots cursor.at share is_known found) [
+          | inl past ↦ root_past past is-next
+          | inr e ↦ root_found share _ refl e is-next
+        ]
+
+    pub root_new : known ≡ None → shared_offset share chunk edits types levels cursor.node s root_types_start 0 roots ≡ None
+    root_new = known_none chunk edits types levels cursor.node s root_types_start 0 roots cursor.at share is_known

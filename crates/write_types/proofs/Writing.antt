@@ -20,8 +20,8 @@ use Rattle.write_texts.specs.Simulates.{text_facts, Simulates}
 use Rattle.write_texts.specs.Scratch.{member_width, inner_start, defaults_start, records_start, region, inner_pool, pools_in, PoolsReady}
 use Rattle.write_texts.specs.PlacedInPool.{farthest_offset}
 use Rattle.write_texts.specs.PlacedInScratch.{TextPlaced}
-use Rattle.write_texts.specs.declared.Placement.{Placement}
-use Rattle.write_texts.specs.declared.WriteCursor.{WriteCursor}
+use Rattle.write_texts.specs.Cursor.{Placement}
+use Rattle.write_texts.specs.Cursor.{WriteCursor}
 use Rattle.write_texts.proofs.Runs.{ran_bind, ran_empty, ran_unless_empty}
 use Rattle.write_texts.proofs.Regions.{length_region, kept_same}
 use Rattle.tables.specs.Trees.{BuiltAt, node_at, members_at, tree_at, type_tree}
@@ -29,7 +29,7 @@ use Rattle.write_types.specs.Trees.{member_tree, members_from}
 use Rattle.write_types.specs.Writing.{write_tree, place_type_name, append_records, close_type, count_within}
 use Rattle.write_types.specs.Room.{TypeReady, MembersReady}
 use Rattle.write_types.specs.TypePlaced.{TypePut, TypeWritten, MembersPlaced}
-use Rattle.write_types.specs.declared.PlacedMembers.{PlacedMembers}
+use Rattle.write_types.specs.Placed.{PlacedMembers}
 use Rattle.write_types.proofs.Ready.{with_at}
 use Rattle.write_types.proofs.Stacks.{keeps_then, keeps_names}
 

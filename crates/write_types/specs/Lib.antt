@@ -1,3 +1,4 @@
+pub mod Placed
 pub mod Trees
 pub mod Writing
 pub mod Room

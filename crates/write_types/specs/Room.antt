@@ -4,7 +4,7 @@
 use Rattle.std.specs.Prelude.{◌≡◌, List, ℕ, ◌+◌, ◌*◌, ◌≤◌, ◌<◌, length, get_or}
 use Rattle.write_pool.specs.Pool.{entry_count}
 use Rattle.reflection.specs.Limits.{type_room}
-use Rattle.write_texts.specs.declared.WriteCursor.{WriteCursor}
+use Rattle.write_texts.specs.Cursor.{WriteCursor}
 use Rattle.write_texts.specs.Scratch.{member_width, shared_width, inner_start, defaults_start, member_types_start, records_start, variables_start}
 use Rattle.write_texts.specs.Scratch.{inner_pool}
 use Rattle.write_texts.specs.Scratch.{PoolsReady}

@@ -1,24 +1,23 @@
 -- Vocabulary of internal contracts: no contract of an exported function and no demand cites it.
 -- What the functions that place a type leave: which step ran, and what was used of the room.
-use Rattle.std.specs.Prelude.{◌≡◌, Bool, true, ◌&&◌, List, ℕ, ◌+◌, ◌*◌, ◌-◌, ◌≤◌, eqb, length, get_or, Option}
+use Rattle.std.specs.Prelude.{◌≡◌, Bool, true, ◌&&◌, List, ℕ, ◌+◌, ◌*◌, ◌-◌, ◌≤◌, eqb, ltb, cond, length, get_or, Option, Some}
 use Rattle.reflection.specs.declared.Text.{Text}
 use Rattle.reflection.specs.Reflection.{TypeNumbers, TypeDesc, member_count}
 use Rattle.write_spec.specs.Step.{Pools, find, in_member_pool}
 use Rattle.write_spec.specs.Same.{same_type}
 use Rattle.write_spec.specs.Layout.{place_type, place_members}
 use Rattle.write_pool.specs.Pool.{entry_count}
-use Rattle.write_texts.specs.Simulates.{text_facts, Simulates}
+use Rattle.write_texts.specs.Simulates.{text_facts, chunk_limit, Simulates}
 use Rattle.write_texts.specs.Scratch.{member_width, root_types_start, variables_start, region, outer_pool, inner_pool, default_pool, types_from}
 use Rattle.write_texts.specs.Scratch.{pools_in, PoolsReady}
-use Rattle.write_texts.specs.declared.Placement.{Placement}
-use Rattle.write_texts.specs.declared.WriteCursor.{WriteCursor}
+use Rattle.write_texts.specs.Cursor.{Placement}
+use Rattle.write_texts.specs.Cursor.{WriteCursor}
 use Rattle.tables.specs.Trees.{node_at, tree_at, type_tree}
 use Rattle.compare_types.specs.Same.{same_name}
 use Rattle.write_types.specs.Trees.{member_tree, members_from}
 use Rattle.write_types.specs.Writing.{write_tree, append_records, close_type, only_if}
 use Rattle.write_types.specs.Room.{node_bytes, spare_bytes, Keeps}
-use Rattle.write_types.specs.declared.PlacedType.{PlacedType}
-use Rattle.write_types.specs.declared.PlacedMembers.{PlacedMembers}
+use Rattle.write_types.specs.Placed.{PlacedType, PlacedMembers}
 
 -- The offset of a type equal to that at `node`, among `count` entries of a region.
 unfoldable pub type_offset : List ℕ → List ℕ → List ℕ → ℕ → ℕ → List ℕ → ℕ → ℕ → ℕ → Option ℕ
@@ -29,6 +28,11 @@ type_offset chunk edits types levels node s start base count =
 unfoldable pub shared_offset : Bool → List ℕ → List ℕ → List ℕ → ℕ → ℕ → List ℕ → ℕ → ℕ → ℕ → Option ℕ
 shared_offset share chunk edits types levels node s start base count =
     only_if (share && eqb (node_at types node).numbers.elements 0) (type_offset chunk edits types levels node s start base count)
+
+-- The offset where the type is not to be written: that of an equal type, or 0 where the output's cursor is past a chunk's limit.
+unfoldable pub known_offset : Bool → List ℕ → List ℕ → List ℕ → ℕ → ℕ → List ℕ → ℕ → ℕ → ℕ → ℕ → Option ℕ
+known_offset share chunk edits types levels node s start base count at =
+    cond (ltb chunk_limit at) (Some 0) (shared_offset share chunk edits types levels node s start base count)
 
 -- The records of `count` members were written.
 pub record RecordsPut (records : List ℕ) (at : ℕ) (out out' : List ℕ) (r : Placement) : Type 0 where

@@ -3,83 +3,56 @@ ghost use Rattle.std.specs.Prelude.{◌<◌};
 ghost use Rattle.tables.specs.Nodes.{type_levels};
 ghost use Rattle.reflection.specs.Limits.{variable_room};
 ghost use Rattle.write_texts.specs.Scratch.{records_start};
+ghost use Rattle.write_texts.specs.Writer.{cursor_of, SameLent};
+ghost use Rattle.write_types.specs.Placed.{placed_type};
 ghost use Rattle.write_types.specs.Room.{TypeReady};
 ghost use Rattle.write_types.specs.TypePlaced.{RootTypePlaced};
 
-use crate::PlacedType;
-use crate::find::find_shared;
-use crate::write::write_type;
-use reflection::{CHUNK_LIMIT, TYPE_LEVELS};
-use write_texts::{RECORDS_START, ROOT_TYPES_START, SHARED_WORDS, WriteCursor};
+use crate::find::known_offset;
+use crate::list::TypeList;
+use crate::write::{Level, write_type};
+use compare_types::TypeNode;
+use reflection::TYPE_LEVELS;
+use write_texts::{RECORDS_START, ROOT_TYPES_START, SHARED_WORDS, Source, Writer};
 
-// Places the type at the cursor's node as a variable's. It is looked up among the cursor's types of variables, and is the next of them where it was not found
-// and may be shared.
-pub fn place_root_type<'a>(
-    chunk: &'a [u8],
-    edits: &'a [u8],
-    types: &[u32],
-    scratch: &mut [u32],
-    out: &mut [u8],
-    cursor: WriteCursor,
-    share: bool,
-    sm5: bool,
-) -> PlacedType
-    requires type_ready { TypeReady chunk.now edits.now types.now type_levels 0 records_start cursor scratch.old }
-    requires root_types_bound { cursor.root_types < variable_room }
-    ensures { RootTypePlaced chunk.now edits.now types.now sm5 share type_levels cursor
-        scratch.old scratch.new out.old out.new result }
+// Places the type at the writer's node as a variable's; the answer is its offset. It is looked up among the writer's types of variables, and is the next of
+// them where it was not found and may be shared.
+pub fn place_root_type(source: Source<'_>, w: &mut Writer<'_, '_>, share: bool) -> u32
+    requires type_ready { TypeReady source.texts.chunk.now source.texts.edits.now source.types.now type_levels 0 records_start (cursor_of w.old)
+        w.old.scratch.now }
+    requires root_types_bound { w.old.root_types < variable_room }
+    ensures placed { RootTypePlaced source.entry.texts.chunk.now source.entry.texts.edits.now source.entry.types.now source.entry.sm5 share type_levels
+        (cursor_of w.old) w.old.scratch.now w.new.scratch.now w.old.out.now.bytes.now w.new.out.now.bytes.now (placed_type result w.new) }
+    ensures same { SameLent w.old w.new }
 {
-    if cursor.at > CHUNK_LIMIT {
-        let node = compare_types::skip_type(types, cursor.node, TYPE_LEVELS);
-        return PlacedType {
-            offset: 0,
-            cursor: WriteCursor { node, ..cursor },
-        };
-    }
-    if let Some(offset) = find_shared(
-        chunk,
-        edits,
-        types,
+    let at = w.out.at;
+    let node = w.node;
+    let count = w.root_types;
+    let scratch = &mut *w.scratch;
+    let x = TypeNode {
+        types: source.types,
+        node,
+    };
+    let list = TypeList {
         scratch,
-        ROOT_TYPES_START,
-        0,
-        cursor.root_types,
-        cursor.node,
-        TYPE_LEVELS,
-        share,
-    ) {
-        let node = compare_types::skip_type(types, cursor.node, TYPE_LEVELS);
-        return PlacedType {
-            offset,
-            cursor: WriteCursor { node, ..cursor },
-        };
+        start: ROOT_TYPES_START,
+        base: 0,
+        count,
+    };
+    if let Some(offset) = known_offset(source.texts, x, TYPE_LEVELS, list, share, at) {
+        w.node = compare_types::skip_type(x, TYPE_LEVELS);
+        return offset;
     }
-    let placed = write_type(
-        chunk,
-        edits,
-        types,
-        scratch,
-        out,
-        cursor,
-        TYPE_LEVELS,
-        0,
-        RECORDS_START,
-        sm5,
-    );
-    if !share {
-        return placed;
+    let level = Level {
+        levels: TYPE_LEVELS,
+        base: 0,
+        records_top: RECORDS_START,
+    };
+    let offset = write_type(source, w, level);
+    if share {
+        let entry = [node as u32, offset];
+        words::overwrite(w.scratch, ROOT_TYPES_START + count * SHARED_WORDS, &entry);
+        w.root_types = count + 1;
     }
-    let entry = [cursor.node as u32, placed.offset];
-    words::overwrite(
-        scratch,
-        ROOT_TYPES_START + cursor.root_types * SHARED_WORDS,
-        &entry,
-    );
-    PlacedType {
-        offset: placed.offset,
-        cursor: WriteCursor {
-            root_types: cursor.root_types + 1,
-            ..placed.cursor
-        },
-    }
+    offset
 }

@@ -1,40 +1,47 @@
 // Writes a type with its members: each member's type is found among those before it or written one level deeper.
 ghost use Rattle.std.specs.Prelude.{◌≡◌, ◌≤◌, ◌<◌};
 ghost use Rattle.write_pool.specs.Pool.{entry_count};
-ghost use Rattle.write_texts.specs.PlacedInPool.{SourcesFit, farthest_offset};
+ghost use Rattle.write_texts.specs.PlacedInPool.{farthest_offset};
 ghost use Rattle.write_texts.specs.Scratch.{inner_start, defaults_start, inner_pool, PoolsReady};
 ghost use Rattle.write_texts.specs.PlacedInScratch.{inner_room, TextPlaced};
+ghost use Rattle.write_texts.specs.Writer.{cursor_of, placed_at, SameLent, SameTypes};
 ghost use Rattle.write_types.specs.Writing.{count_within, place_type_name};
+ghost use Rattle.write_types.specs.Placed.{placed_type, placed_members};
 ghost use Rattle.write_types.specs.Room.{TypeReady, MembersReady};
 ghost use Rattle.write_types.specs.TypePlaced.{TypeWritten, MemberTypePlaced, MembersPlaced};
 
-use crate::find::find_shared;
+use crate::find::known_offset;
+use crate::list::TypeList;
 use crate::put::put_type;
-use crate::{PlacedMembers, PlacedType};
-use reflection::{CHUNK_LIMIT, Text};
-use write_texts::{MEMBER_TYPES_START, MEMBER_WORDS, Placement, SHARED_WORDS, WriteCursor};
+use compare_types::TypeNode;
+use reflection::Text;
+use write_texts::{MEMBER_TYPES_START, MEMBER_WORDS, SHARED_WORDS, Source, Writer};
 
-// Places a type's name; an empty one has offset 0.
-fn place_type_name<'a>(
-    chunk: &'a [u8],
-    edits: &'a [u8],
-    name: Text,
-    scratch: &mut [u32],
-    out: &mut [u8],
-    at: usize,
-) -> Placement
-    requires sources_fit { SourcesFit chunk.now edits.now }
-    requires pools_ready { PoolsReady chunk.now edits.now scratch.old }
-    requires scratch_bound { entry_count (inner_pool scratch.old) < inner_room }
-    requires at_le_farthest_offset { at ≤ farthest_offset }
-    ensures { TextPlaced chunk.now edits.now (place_type_name chunk.now edits.now name) at
-        inner_pool inner_start defaults_start scratch.old scratch.new out.old out.new result }
+// How many levels of members a type may have, and where in the scratch what belongs to its members begins: the writer's types of members are those from entry
+// `base` on, and the records' words begin at `records_top`.
+#[derive(Clone, Copy)]
+pub struct Level {
+    pub levels: usize,
+    pub base: usize,
+    pub records_top: usize,
+}
+
+// Places a type's name; the answer is its offset, 0 for an empty one.
+fn place_type_name(source: Source<'_>, w: &mut Writer<'_, '_>, name: Text) -> u32
+    requires pools_ready { PoolsReady source.texts.chunk.now source.texts.edits.now w.old.scratch.now }
+    requires scratch_bound { entry_count (inner_pool w.old.scratch.now) < inner_room }
+    requires at_le_farthest_offset { w.old.out.now.at ≤ farthest_offset }
+    ensures placed { TextPlaced source.entry.texts.chunk.now source.entry.texts.edits.now
+        (place_type_name source.entry.texts.chunk.now source.entry.texts.edits.now name)
+        w.old.out.now.at inner_pool inner_start defaults_start w.old.scratch.now w.new.scratch.now w.old.out.now.bytes.now w.new.out.now.bytes.now
+        (placed_at result w.new) }
+    ensures same { SameTypes w.old w.new }
 {
-    let bytes = reflection::name_part(chunk, edits, name);
+    let bytes = source.texts.name_part(name);
     if bytes.is_empty() {
-        return Placement { offset: 0, at };
+        return 0;
     }
-    write_texts::place_inner_name(chunk, edits, name, scratch, out, at)
+    w.place_inner_name(source, name)
 }
 
 // How many members a type with so many levels has, where its node counts `count`.
@@ -44,180 +51,92 @@ fn count_within(levels: usize, count: u32) -> u32
     if levels == 0 { 0 } else { count }
 }
 
-// Writes the type at the cursor's node. The types of its members are the cursor's from entry `base` on.
+// Writes the type at the writer's node; the answer is its offset.
 #[cycle(place_member_type_place_members_write_type)]
-pub fn write_type<'a>(
-    chunk: &'a [u8],
-    edits: &'a [u8],
-    types: &[u32],
-    scratch: &mut [u32],
-    out: &mut [u8],
-    cursor: WriteCursor,
-    levels: usize,
-    base: usize,
-    records_top: usize,
-    sm5: bool,
-) -> PlacedType
-    requires { TypeReady chunk.now edits.now types.now levels base records_top cursor scratch.old }
-    ensures { TypeWritten chunk.now edits.now types.now sm5 levels base records_top cursor
-        scratch.old scratch.new out.old out.new result }
+pub fn write_type(source: Source<'_>, w: &mut Writer<'_, '_>, level: Level) -> u32
+    requires { TypeReady source.texts.chunk.now source.texts.edits.now source.types.now level.levels level.base level.records_top
+        (cursor_of w.old) w.old.scratch.now }
+    ensures placed { TypeWritten source.entry.texts.chunk.now source.entry.texts.edits.now source.entry.types.now source.entry.sm5
+        level.levels level.base level.records_top (cursor_of w.old)
+        w.old.scratch.now w.new.scratch.now w.old.out.now.bytes.now w.new.out.now.bytes.now (placed_type result w.new) }
+    ensures same { SameLent w.old w.new }
 {
-    let desc = tables::type_at(types, cursor.node);
-    let name = place_type_name(chunk, edits, desc.name, scratch, out, cursor.at);
-    let inside = WriteCursor {
-        at: name.at,
-        node: cursor.node + 1,
-        ..cursor
-    };
-    let members = place_members(
-        chunk,
-        edits,
-        types,
-        scratch,
-        out,
-        inside,
-        count_within(levels, desc.member_count),
-        levels,
-        base,
-        records_top,
-        sm5,
-    );
-    let records = &scratch[records_top..members.records_top];
-    let placed = put_type(out, members.cursor.at, records, desc, name.offset, sm5);
-    PlacedType {
-        offset: placed.offset,
-        cursor: WriteCursor {
-            at: placed.at,
-            ..members.cursor
-        },
-    }
+    let desc = tables::type_at(source.types, w.node);
+    let name = place_type_name(source, w, desc.name);
+    w.node += 1;
+    let count = count_within(level.levels, desc.member_count);
+    let top = place_members(source, w, count, level);
+    // Lent whole first, so that it is known to stay as it is.
+    let scratch = &mut *w.scratch;
+    let scratch = &*scratch;
+    let records = &scratch[level.records_top..top];
+    put_type(w.out, records, desc, name, source.sm5)
 }
 
-// Places `count` members, the first at the cursor's node, of a type with so many levels; their records' words go onto the stack at `records_top`. A loop, so
-// that the stack of calls holds at most three frames for each level.
+// Places `count` members, the first at the writer's node, of a type with so many levels; their records' words go onto the stack at `records_top`, and the
+// answer is where they end. A loop, so that the stack of calls holds at most three frames for each level.
 #[cycle(place_member_type_place_members_write_type)]
-fn place_members<'a>(
-    chunk: &'a [u8],
-    edits: &'a [u8],
-    types: &[u32],
-    scratch: &mut [u32],
-    out: &mut [u8],
-    cursor: WriteCursor,
-    count: u32,
-    levels: usize,
-    base: usize,
-    records_top: usize,
-    sm5: bool,
-) -> PlacedMembers
-    requires { MembersReady chunk.now edits.now types.now levels count base records_top cursor scratch.old }
-    ensures { MembersPlaced chunk.now edits.now types.now sm5 levels count base records_top cursor
-        scratch.old scratch.new out.old out.new result }
+fn place_members(source: Source<'_>, w: &mut Writer<'_, '_>, count: u32, level: Level) -> usize
+    requires { MembersReady source.texts.chunk.now source.texts.edits.now source.types.now level.levels count level.base level.records_top
+        (cursor_of w.old) w.old.scratch.now }
+    ensures placed { MembersPlaced source.entry.texts.chunk.now source.entry.texts.edits.now source.entry.types.now source.entry.sm5
+        level.levels count level.base level.records_top (cursor_of w.old)
+        w.old.scratch.now w.new.scratch.now w.old.out.now.bytes.now w.new.out.now.bytes.now (placed_members result w.new) }
+    ensures same { SameLent w.old w.new }
 {
-    let mut to = cursor;
-    let mut top = records_top;
+    let mut top = level.records_top;
     let mut left = count;
-    while compare_types::has_member(types, left, to.node) {
-        let desc = tables::type_at(types, to.node);
-        let name = write_texts::place_inner_name(
-            chunk,
-            edits,
-            desc.member_name,
-            scratch,
-            out,
-            to.at,
-        );
-        let placed = place_member_type(
-            chunk,
-            edits,
-            types,
-            scratch,
-            out,
-            WriteCursor { at: name.at, ..to },
-            levels - 1,
-            base,
-            top,
-            sm5,
-        );
-        let row = [name.offset, placed.offset, desc.member_offset];
-        words::overwrite(scratch, top, &row);
-        to = placed.cursor;
+    while compare_types::has_member(source.types, left, w.node) {
+        let desc = tables::type_at(source.types, w.node);
+        let name = w.place_inner_name(source, desc.member_name);
+        let member = Level {
+            levels: level.levels - 1,
+            base: level.base,
+            records_top: top,
+        };
+        let offset = place_member_type(source, w, member);
+        let row = [name, offset, desc.member_offset];
+        words::overwrite(w.scratch, top, &row);
         top += MEMBER_WORDS;
         left -= 1;
     }
-    PlacedMembers {
-        cursor: to,
-        records_top: top,
-    }
+    top
 }
 
-// Places the type at the cursor's node as a member's: it is looked up among the cursor's types of members from entry `base` on, and is the next entry where it
-// was not found. The types of its own members begin there, and are dropped.
+// Places the type at the writer's node as a member's; the answer is its offset. It is looked up among the writer's types of members from entry `base` on, and
+// is the next entry where it was not found. The types of its own members begin there, and are dropped.
 #[cycle(place_member_type_place_members_write_type)]
-fn place_member_type<'a>(
-    chunk: &'a [u8],
-    edits: &'a [u8],
-    types: &[u32],
-    scratch: &mut [u32],
-    out: &mut [u8],
-    cursor: WriteCursor,
-    levels: usize,
-    base: usize,
-    records_top: usize,
-    sm5: bool,
-) -> PlacedType
-    requires { TypeReady chunk.now edits.now types.now levels base records_top cursor scratch.old }
-    ensures { MemberTypePlaced chunk.now edits.now types.now sm5 levels base records_top cursor
-        scratch.old scratch.new out.old out.new result }
+fn place_member_type(source: Source<'_>, w: &mut Writer<'_, '_>, level: Level) -> u32
+    requires { TypeReady source.texts.chunk.now source.texts.edits.now source.types.now level.levels level.base level.records_top
+        (cursor_of w.old) w.old.scratch.now }
+    ensures placed { MemberTypePlaced source.entry.texts.chunk.now source.entry.texts.edits.now source.entry.types.now source.entry.sm5
+        level.levels level.base level.records_top (cursor_of w.old)
+        w.old.scratch.now w.new.scratch.now w.old.out.now.bytes.now w.new.out.now.bytes.now (placed_type result w.new) }
+    ensures same { SameLent w.old w.new }
 {
-    if cursor.at > CHUNK_LIMIT {
-        let node = compare_types::skip_type(types, cursor.node, levels);
-        return PlacedType {
-            offset: 0,
-            cursor: WriteCursor { node, ..cursor },
-        };
-    }
-    if let Some(offset) = find_shared(
-        chunk,
-        edits,
-        types,
-        scratch,
-        MEMBER_TYPES_START,
-        base,
-        cursor.member_types,
-        cursor.node,
-        levels,
-        true,
-    ) {
-        let node = compare_types::skip_type(types, cursor.node, levels);
-        return PlacedType {
-            offset,
-            cursor: WriteCursor { node, ..cursor },
-        };
-    }
-    let count = base + cursor.member_types;
-    let inside = WriteCursor {
-        member_types: 0,
-        ..cursor
+    let at = w.out.at;
+    let node = w.node;
+    let count = w.member_types;
+    let scratch = &mut *w.scratch;
+    let x = TypeNode {
+        types: source.types,
+        node,
     };
-    let placed = write_type(
-        chunk,
-        edits,
-        types,
+    let list = TypeList {
         scratch,
-        out,
-        inside,
-        levels,
+        start: MEMBER_TYPES_START,
+        base: level.base,
         count,
-        records_top,
-        sm5,
-    );
-    let entry = [cursor.node as u32, placed.offset];
-    words::overwrite(scratch, MEMBER_TYPES_START + count * SHARED_WORDS, &entry);
-    PlacedType {
-        offset: placed.offset,
-        cursor: WriteCursor {
-            member_types: cursor.member_types + 1,
-            ..placed.cursor
-        },
+    };
+    if let Some(offset) = known_offset(source.texts, x, level.levels, list, true, at) {
+        w.node = compare_types::skip_type(x, level.levels);
+        return offset;
     }
+    let base = level.base + count;
+    w.member_types = 0;
+    let offset = write_type(source, w, Level { base, ..level });
+    let entry = [node as u32, offset];
+    words::overwrite(w.scratch, MEMBER_TYPES_START + base * SHARED_WORDS, &entry);
+    w.member_types = count + 1;
+    offset
 }

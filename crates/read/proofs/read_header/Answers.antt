@@ -1,11 +1,11 @@
 -- `read_header` meets its contract: each way out is a law of the header, from the tests that led there. Assumes nothing.
-use mathlib.Core.Path.{◌≡◌, sym, ◌∙◌}
+use mathlib.Core.Path.{◌≡◌, refl, sym, ◌∙◌}
 use mathlib.Core.Bool.{true}
 use native.Mathlib.Omega.{arith}
 use lib.Dec.{eqb}
 use Rattle.std.specs.Prelude.{Ok}
 use Rattle.std.proofs.lemmas.Result.{err_from_is_err_and}
-use Rattle.reflection.specs.declared.refusal.Refusal.TheVariants.{BadCreator}
+use Rattle.read_types.proofs.InChunk.{not_found, text_found}
 use Rattle.read.specs.Header.{rd11_check}
 use Rattle.read.proofs.Header.{known_major, major_at, major_unknown, major_4, major_5, creator_is}
 use Rattle.read.proofs.Header.{refused_too_short, refused_too_long, refused_major, refused_creator, refused_rd11, headed, wide_by_stride, never_wide}
@@ -32,39 +32,41 @@ returns-in_default c =
     refused_major c.args.chunk.now c.if-chunk.false c.if-chunk-gt-CHUNK_LIMIT.false
     (major_unknown c.args.chunk.now c.word_at.ensures c.major_of.ensures (λ e. absurd (omega arith)) (λ e. absurd (omega arith)))
 
-pub returns-in_err-found : goal.returns-in_err-found
-returns-in_err-found c =
+pub returns-in_err-creator : goal.returns-in_err-creator
+returns-in_err-creator c =
     let p = err_from_is_err_and c.from_residual.result c.from_residual.ensures.1 in
-    let none = c.in_err-found.ensures.ok_part in
-    let bad : p.0 ≡ BadCreator = grind arith in
-    let known = (version (goal.at.returns-in_err-found c).After-word_at-offset).0 in
-    rw (p.1, bad)
+    let bad = not_found _ c.in_err-creator.ensures in
+    let known = (version (goal.at.returns-in_err-creator c).After-word_at-offset).0 in
+    rw (p.1, p.2, bad.refusal)
     (refused_creator c.args.chunk.now c.if-chunk.false c.if-chunk-gt-CHUNK_LIMIT.false known
-    (creator_is c.args.chunk.now c.word_at-offset.ensures c.cstring_at.ensures.0 none))
+    (creator_is c.args.chunk.now c.word_at-offset.ensures refl bad.none))
 
 pub returns-in_err-check_rd11 : goal.returns-in_err-check_rd11
 returns-in_err-check_rd11 c =
+    let found = text_found _ _ c.in_ok-creator.ensures in
     let p = err_from_is_err_and c.from_residual-in_err-check_rd11.result c.from_residual-in_err-check_rd11.ensures.1 in
     let v = version (goal.at.returns-in_err-check_rd11 c).After-word_at-offset in
     rw (p.1, p.2)
     (refused_rd11 c.args.chunk.now c.if-chunk.false c.if-chunk-gt-CHUNK_LIMIT.false v.0 _ _
-    (creator_is c.args.chunk.now c.word_at-offset.ensures c.cstring_at.ensures.0 c.in_ok-found.ensures.ok_part)
+    (creator_is c.args.chunk.now c.word_at-offset.ensures refl found.some)
     (v.1 ∙ c.if-sm5.true) _ (sym c.in_err-check_rd11.ensures))
 
 pub returns-then-sm5-2 : goal.returns-then-sm5-2
 returns-then-sm5-2 c =
+    let found = text_found _ _ c.in_ok-creator.ensures in
     let v = version (goal.at.returns-then-sm5-2 c).After-word_at-offset in
     let checked : c.match-major_of.sm5 ≡ true → rd11_check c.args.chunk.now ≡ Ok tt = elim c.if-sm5.branch [
       | then-sm5+in_ok-check_rd11 w ↦ λ five. sym w.in_ok-check_rd11.ensures
       | else-sm5 w ↦ λ five. absurd (cc (five, w.if-sm5.false))
     ] in
     headed c.args.chunk.now c.if-chunk.false c.if-chunk-gt-CHUNK_LIMIT.false v.0 _ _
-    (creator_is c.args.chunk.now c.word_at-offset.ensures c.cstring_at.ensures.0 c.in_ok-found.ensures.ok_part)
-    c.in_chunk-creator.ensures v.1 checked (wide_by_stride c.args.chunk.now _ c.if-sm5-2.true c.word_at-then-sm5-2.ensures)
+    (creator_is c.args.chunk.now c.word_at-offset.ensures refl found.some)
+    found.is v.1 checked (wide_by_stride c.args.chunk.now _ c.if-sm5-2.true c.word_at-then-sm5-2.ensures)
 
 pub returns-else-sm5-2 : goal.returns-else-sm5-2
 returns-else-sm5-2 c =
+    let found = text_found _ _ c.in_ok-creator.ensures in
     let v = version (goal.at.returns-else-sm5-2 c).After-word_at-offset in
     headed c.args.chunk.now c.if-chunk.false c.if-chunk-gt-CHUNK_LIMIT.false v.0 _ _
-    (creator_is c.args.chunk.now c.word_at-offset.ensures c.cstring_at.ensures.0 c.in_ok-found.ensures.ok_part)
-    c.in_chunk-creator.ensures v.1 (λ five. absurd (cc (five, c.if-sm5-2.false))) (never_wide c.args.chunk.now _ c.if-sm5-2.false)
+    (creator_is c.args.chunk.now c.word_at-offset.ensures refl found.some)
+    found.is v.1 (λ five. absurd (cc (five, c.if-sm5-2.false))) (never_wide c.args.chunk.now _ c.if-sm5-2.false)

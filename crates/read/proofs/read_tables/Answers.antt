@@ -1,43 +1,58 @@
 -- `read_tables` meets its contract: each way out is a law of the header and the two walks, from what they ensure. Assumes nothing.
+use mathlib.Core.Path.{◌≡◌, ◌∙◌}
+use native.Mathlib.Omega.{arith}
+use Rattle.std.proofs.Common.{rules}
 use Rattle.std.proofs.lemmas.Result.{err_from_is_err_and}
-use Rattle.read.proofs.Tables.{is_room_by, header_refused, bindings_refused, buffers_refused, tables_filled}
+use Rattle.read.proofs.Tables.{no_records, header_refused, bindings_refused, buffers_refused, tables_filled}
 use Rattle.read.proofs.read_tables.Goals as goal
 
-pub returns-in_err-header : goal.returns-in_err-header
-returns-in_err-header c =
+pub returns-in_err-header-clause-filled : goal.returns-in_err-header-clause-filled
+returns-in_err-header-clause-filled c =
     let p = err_from_is_err_and c.from_residual.result c.from_residual.ensures.1 in
-    rw (p.1, p.2) (header_refused c.args.chunk.now _ c.in_err-header.ensures)
+    rw (p.1, p.2) (header_refused c.args.bytes.now _ c.in_err-header.ensures)
 
-pub returns-in_err-walked : goal.returns-in_err-walked
-returns-in_err-walked c =
-    let p = err_from_is_err_and c.from_residual-in_err-walked.result c.from_residual-in_err-walked.ensures.1 in
-    let room =
-    is_room_by c.args.bindings.now c.args.buffers.now c.args.variables.now c.args.types.now
-    c.min.ensures c.min-2.ensures c.min-3.ensures c.min-4.ensures in
+pub returns-in_err-walk_bindings-clause-filled : goal.returns-in_err-walk_bindings-clause-filled
+returns-in_err-walk_bindings-clause-filled c =
+    let none : c.default.result ≡ no_records = search rules in
+    let p = err_from_is_err_and c.from_residual-in_err-walk_bindings.result c.from_residual-in_err-walk_bindings.ensures.1 in
     rw (p.1, p.2)
-    (bindings_refused c.args.chunk.now room c.in_ok-header.header c.in_ok-header.ensures
-    c.word_at-binding_count.ensures c.word_at-first_binding.ensures _ _ c.in_err-walked.ensures)
+    (bindings_refused c.args.bytes.now c.capacity_of-capacity.ensures c.in_ok-header.header c.in_ok-header.ensures
+    c.word_at-2.ensures c.word_at.ensures _ _ (rw none at c.in_err-walk_bindings.ensures.walked))
 
-pub returns-in_err-counts : goal.returns-in_err-counts
-returns-in_err-counts c =
-    let p = err_from_is_err_and c.from_residual-in_err-counts.result c.from_residual-in_err-counts.ensures.1 in
-    let room =
-    is_room_by c.args.bindings.now c.args.buffers.now c.args.variables.now c.args.types.now
-    c.min.ensures c.min-2.ensures c.min-3.ensures c.min-4.ensures in
+pub returns-in_err-walk_buffers-clause-filled : goal.returns-in_err-walk_buffers-clause-filled
+returns-in_err-walk_buffers-clause-filled c =
+    let none : c.default.result ≡ no_records = search rules in
+    let p = err_from_is_err_and c.from_residual-in_err-walk_buffers.result c.from_residual-in_err-walk_buffers.ensures.1 in
+    let kept = c.in_ok-walk_bindings.ensures.kept in
     rw (p.1, p.2)
-    (buffers_refused c.args.chunk.now room c.in_ok-header.header c.in_ok-header.ensures
-    c.word_at-binding_count.ensures c.word_at-first_binding.ensures _ c.in_ok-walked.ensures
-    c.word_at-buffer_count.ensures c.word_at-first_buffer.ensures _ _ _ _ c.in_err-counts.ensures)
+    (buffers_refused c.args.bytes.now c.capacity_of-capacity.ensures c.in_ok-header.header c.in_ok-header.ensures
+    c.word_at-2.ensures c.word_at.ensures _ (rw none at c.in_ok-walk_bindings.ensures.walked)
+    c.word_at-4.ensures c.word_at-3.ensures _ _ _ _
+    (rw (kept.same.capacity, kept.buffers, kept.variables, kept.types) at c.in_err-walk_buffers.ensures.walked))
 
-pub returns : goal.returns
-returns c =
-    let room =
-    is_room_by c.args.bindings.now c.args.buffers.now c.args.variables.now c.args.types.now
-    c.min.ensures c.min-2.ensures c.min-3.ensures c.min-4.ensures in
-    let kept = c.walk_buffers.auto in
-    tables_filled c.args.chunk.now room c.in_ok-header.header c.in_ok-header.ensures
-    c.word_at-binding_count.ensures c.word_at-first_binding.ensures _ c.in_ok-walked.ensures
-    c.word_at-buffer_count.ensures c.word_at-first_buffer.ensures _ _ _ c.in_ok-counts.ensures
-    c.walk_bindings.auto.bindings kept.buffers kept.variables kept.types
-    c.word_at.ensures c.word_at-2.ensures
-    c.word_if.ensures c.word_if-2.ensures c.word_if-3.ensures
+pub returns-clause-filled : goal.returns-clause-filled
+returns-clause-filled c =
+    let none : c.default.result ≡ no_records = search rules in
+    let kept = c.in_ok-walk_bindings.ensures.kept in
+    let then = c.in_ok-walk_buffers.ensures.kept in
+    let filled =
+    tables_filled c.args.bytes.now c.capacity_of-capacity.ensures c.in_ok-header.header c.in_ok-header.ensures
+    c.word_at-2.ensures c.word_at.ensures c.walk_bindings.new.filling.bindings.now (rw none at c.in_ok-walk_bindings.ensures.walked)
+    c.word_at-4.ensures c.word_at-3.ensures c.walk_buffers.new.filling.buffers.now c.walk_buffers.new.filling.variables.now c.walk_buffers.new.filling.types.now
+    (rw (kept.same.capacity, kept.buffers, kept.variables, kept.types) at c.in_ok-walk_buffers.ensures.walked)
+    kept.same.bindings_long (then.same.buffers_long ∙ kept.same.buffers_long) (then.same.variables_long ∙ kept.same.variables_long)
+    (then.same.types_long ∙ kept.same.types_long)
+    c.word_at-5.ensures c.word_at-6.ensures c.word_if.ensures c.word_if-2.ensures c.word_if-3.ensures in
+    record {
+      answer = filled.answer;
+      rows = (
+        grind (arith, filled.rows.0, then.bindings),
+        (
+          grind (arith, filled.rows.1.0),
+          (
+            grind (arith, filled.rows.1.1.0),
+            grind (arith, filled.rows.1.1.1),
+          ),
+        ),
+      );
+    }

@@ -1,17 +1,13 @@
-use Rattle.text.specs.declared.Span.{Span}
-use Rattle.std.specs.Prelude.{Option, Some}
 use Rattle.std.specs.Option.{is_some}
 use Rattle.std.proofs.lemmas.Result.{err_from_is_err_and}
-use Rattle.reflection.specs.declared.refusal.Refusal.TheVariants.{BadName}
 use mathlib.Core.Path.{◌≡◌, sym, ap, ◌∙◌}
-use mathlib.Core.Bool.{Bool, true, false, not}
+use mathlib.Core.Bool.{Bool, false, not}
 use mathlib.Core.List.{List}
-use Prim.Native.Nat.{ℕ, ◌+◌, ◌-◌, ◌<◌}
+use Prim.Native.Nat.{ℕ, ◌+◌, ◌-◌, ◌≤◌, ◌<◌}
 use native.Mathlib.Omega.{arith}
-use lib.ListN.{length, take, length-set}
+use lib.ListN.{length, take}
 use Rattle.words.specs.Words.{word_at, high_at}
 use Rattle.words.specs.Parts.{inside}
-use Rattle.text.specs.Strings.{span}
 use Rattle.text.specs.Strings.{cstring_at}
 use Rattle.reflection.specs.Limits.{type_levels}
 use Rattle.reflection.specs.Strides.{member_stride}
@@ -20,165 +16,156 @@ use Rattle.reflection.specs.declared.TypeDesc.{TypeDesc}
 use Rattle.tables.specs.Records.{put_record, type_width, type_words_in_table}
 use Rattle.tables.specs.Tables.{type_record}
 use Rattle.read_spec.specs.declared.Counts.{Counts}
-use Rattle.read_spec.specs.Read.{on_path, type_stride}
-use Rattle.read_types.specs.Walk.{node_from_chunk, ReadyLevels}
+use Rattle.read_spec.specs.Read.{on_path, type_stride, type_name_at}
+use Rattle.read_types.specs.declared.chunk.Chunk.{Chunk}
+use Rattle.read_types.specs.declared.chunk.Record.{Record}
+use Rattle.read_types.specs.Chunk.{RecordAt}
+use Rattle.read_types.specs.Walk.{node_from_chunk}
+use Rattle.read_types.specs.Walked.{HasRoom}
+use Rattle.read_types.proofs.InChunk.{FoundText, not_found, text_found, in_record}
+use Rattle.read_types.proofs.Kept.{types_then, walked_within}
 use Rattle.read_types.proofs.Path.{on_path_by_search}
-use Rattle.read_types.proofs.MembersWalk.{MemberAt, starts, ends, ends_short, ends_bad, ends_below, goes_on}
+use Rattle.read_types.proofs.MembersWalk.{MemberAt, ends, ends_short, ends_bad, ends_below, goes_on}
 use Rattle.read_types.proofs.TypeWalk.{Entered, stops_deep, stops_cycle, stops_full, stops_short, stops_inside, stops_unnamed, arrives}
 use Rattle.read_types.proofs.+walk_members_walk_type.Goals as goal
 
--- A member's record was tested and read, and its name found.
-member_at : {s : List ℕ} {at left place k below offset name : ℕ} {tested : Bool} {found : (Option Span)}
-    → 0 < left → tested ≡ inside (length s) at member_stride → tested ≡ true → name ≡ word_at s at → found ≡ cstring_at s name → found ≡ Some (span place k)
-    → below ≡ word_at s (at + 4) → offset ≡ word_at s (at + 8)
-    → MemberAt s at left place k below offset
-member_at {s} more is_tested fits is_name is_found found below offset = record {
+-- A member's record was read, and its name found.
+member_at : {chunk : Chunk} {r : Record} {at left below offset : ℕ} {name : Text} → 0 < left → RecordAt chunk at member_stride r
+    → (found : FoundText (cstring_at r.chunk.bytes.now (word_at r.chunk.bytes.now r.at)) name)
+    → below ≡ word_at r.chunk.bytes.now (r.at + 4) → offset ≡ word_at r.chunk.bytes.now (r.at + 8)
+    → MemberAt chunk.bytes.now at left found.place found.k below offset
+member_at more read found below offset = record {
   more = more;
-  fits = sym is_tested ∙ fits;
-  named = sym (is_found ∙ ap (cstring_at s) is_name) ∙ found;
-  is_below = below;
-  is_offset = offset;
+  fits = read.fits;
+  named = sym (in_record (λ s five wide at. cstring_at s (word_at s at)) read) ∙ found.some;
+  is_below = below ∙ in_record (λ s five wide at. word_at s (at + 4)) read;
+  is_offset = offset ∙ in_record (λ s five wide at. word_at s (at + 8)) read;
 }
 
 -- A type passed its tests, and its node was written.
-entered : {s : List ℕ} {sm5 : Bool} {at : ℕ} {mn : Text} {mo levels : ℕ} {capacity n : Counts} {types path types₁ : List ℕ} {count first stride : ℕ}
-    {known tested : Bool} {node : TypeDesc}
-    → ReadyLevels s levels capacity n types path → (levels ≡ 0 → ⊥)
+entered : {chunk : Chunk} {r : Record} {at : ℕ} {mn : Text} {mo levels : ℕ} {capacity n : Counts} {types path types₁ : List ℕ} {count first stride : ℕ}
+    {known : Bool} {node : TypeDesc}
+    → levels ≤ type_levels → length path ≡ type_levels → HasRoom type_width capacity.types n.types types → (levels ≡ 0 → ⊥)
     → known ≡ on_path at (take (type_levels - levels) path) → known ≡ false
     → n.types < capacity.types
-    → stride ≡ type_stride sm5 → tested ≡ inside (length s) at stride → tested ≡ true
-    → node ≡ type_record (node_from_chunk s sm5 at mn mo) → types₁ ≡ put_record type_width types n.types (type_words_in_table node)
-    → count ≡ high_at s (at + 8) → first ≡ word_at s (at + 12)
-    → Entered s sm5 at mn mo levels capacity n types path types₁ count first
-entered {s} {at = at} {n = n} {types = types} ready level is_known fresh free is_stride is_tested fits is_node put count first = record {
-  ready = ready;
-  level = level;
-  fresh = sym is_known ∙ fresh;
-  free = free;
-  fits = sym (is_tested ∙ ap (inside (length s) at) is_stride) ∙ fits;
-  put = put ∙ ap (λ (x : TypeDesc). put_record type_width types n.types (type_words_in_table x)) is_node;
-  is_count = count;
-  is_first = first;
-}
+    → stride ≡ type_stride chunk.sm5 → RecordAt chunk at stride r
+    → node ≡ type_record (node_from_chunk r.chunk.bytes.now r.chunk.sm5 r.at mn mo) → types₁ ≡ put_record type_width types n.types (type_words_in_table node)
+    → count ≡ high_at r.chunk.bytes.now (r.at + 8) → first ≡ word_at r.chunk.bytes.now (r.at + 12)
+    → Entered chunk.bytes.now chunk.sm5 at mn mo levels capacity n types path types₁ count first
+entered {chunk} {at = at} {mn} {mo} {n = n} {types = types}
+    levels_fit path_long types_fit level is_known fresh free is_stride read is_node put count first = record {
+      levels_fit = levels_fit;
+      path_long = path_long;
+      types_fit = types_fit;
+      level = level;
+      fresh = sym is_known ∙ fresh;
+      free = free;
+      fits = sym (ap (inside (length chunk.bytes.now) at) is_stride) ∙ read.fits;
+      put = put
+          ∙ ap (λ (x : TypeDesc). put_record type_width types n.types (type_words_in_table x))
+          (is_node ∙ in_record (λ s five wide at. type_record (node_from_chunk s five at mn mo)) read);
+      is_count = count ∙ in_record (λ s five wide at. high_at s (at + 8)) read;
+      is_first = first ∙ in_record (λ s five wide at. word_at s (at + 12)) read;
+    }
 
-pub walk_members-loop-init : goal.walk_members-loop-init
-walk_members-loop-init t c = starts c.requires (omega arith)
-
--- The member's name is bad.
-pub walk_members-returns-in_err-found : goal.walk_members-returns-in_err-found
-walk_members-returns-in_err-found t c =
-    let p = err_from_is_err_and c.from_residual.result c.from_residual.ensures.1 in
-    let none = c.in_err-found.ensures.ok_part in
-    let bad : p.0 ≡ BadName = grind arith in
-    rw (p.1, bad)
-    (ends_bad c.loop.invariant (omega arith) (sym c.inside.ensures ∙ c.if-not-inside.false)
-    (sym (c.cstring_at.ensures.0 ∙ ap (cstring_at c.args.chunk.now) c.word_at-name.ensures) ∙ none))
-
--- The measure of the type's walk is one less, and it is given what this walk has.
-pub walk_members-walk_type-requires : goal.walk_members-walk_type-requires
-walk_members-walk_type-requires t c =
-    let ready = c.requires.ready in
-    let going = c.loop.invariant in (
-      omega arith,
-      record {
-        ready = record {
-          chunk-fits = ready.chunk-fits;
-          path_is = going.path_long ∙ ready.path_is;
-          types_fit = record { taken = going.grew.types.high; fits = omega (arith, going.types_long, ready.types_fit.fits) };
-        };
-        levels_fit = c.requires.levels_fit;
-      },
-    )
-
--- The walk of the member's type refused.
-pub walk_members-returns-in_err-next : goal.walk_members-returns-in_err-next
-walk_members-returns-in_err-next t c =
-    let p = err_from_is_err_and c.from_residual-in_err-next.result c.from_residual-in_err-next.ensures.1 in
-    rw (p.1, p.2)
-    (ends_below c.loop.invariant
-    (member_at (omega arith) c.inside.ensures c.if-not-inside.false c.word_at-name.ensures c.cstring_at.ensures.0 c.in_ok-found.ensures.ok_part
-    c.word_at-below.ensures c.word_at.ensures)
-    c.in_chunk.ensures c.in_err-next.ensures)
+-- Whether a type's name is good, by what the code tests.
+named : {chunk : Chunk} {r : Record} {at size : ℕ} {b : Bool} → RecordAt chunk at size r → is_some (type_name_at r.chunk.bytes.now r.chunk.sm5 r.at) ≡ b
+    → is_some (type_name_at chunk.bytes.now chunk.sm5 at) ≡ b
+named read is = sym (in_record (λ s five wide at. is_some (type_name_at s five at)) read) ∙ is
 
 -- The member's record runs past the chunk.
-pub walk_members-returns-then-not-inside : goal.walk_members-returns-then-not-inside
-walk_members-returns-then-not-inside t c =
-    ends_short c.loop.invariant (omega arith) (sym c.inside.ensures ∙ c.if-not-inside.true)
+pub walk_members-returns-in_err-record-clause-walked : goal.walk_members-returns-in_err-record-clause-walked
+walk_members-returns-in_err-record-clause-walked t c =
+    let p = err_from_is_err_and c.from_residual.result c.from_residual.ensures.1 in
+    rw (p.1, p.2, c.in_err-record.ensures.refusal)
+    (ends_short c.loop.invariant.going (omega arith) c.in_err-record.ensures.outside)
+
+-- The member's name is bad.
+pub walk_members-returns-in_err-name-clause-walked : goal.walk_members-returns-in_err-name-clause-walked
+walk_members-returns-in_err-name-clause-walked t c =
+    let p = err_from_is_err_and c.from_residual-in_err-name.result c.from_residual-in_err-name.ensures.1 in
+    let read = c.in_ok-record.ensures in
+    let bad = not_found _ c.in_err-name.ensures in
+    rw (p.1, p.2, bad.refusal)
+    (ends_bad c.loop.invariant.going (omega arith) read.fits
+    (sym (in_record (λ s five wide at. cstring_at s (word_at s at)) read) ∙ bad.none))
+
+-- The walk of the member's type refused.
+pub walk_members-returns-in_err-walk_type-clause-walked : goal.walk_members-returns-in_err-walk_type-clause-walked
+walk_members-returns-in_err-walk_type-clause-walked t c =
+    let p = err_from_is_err_and c.from_residual-in_err-walk_type.result c.from_residual-in_err-walk_type.ensures.1 in
+    let found = text_found _ _ c.in_ok-name.ensures in
+    rw (p.1, p.2)
+    (ends_below c.loop.invariant.going
+    (member_at (omega arith) c.in_ok-record.ensures found c.word-in-loop.ensures c.word.ensures) found.is
+    (walked_within c.loop.invariant.kept.same.capacity c.in_err-walk_type.ensures.walked))
 
 -- The next member.
 pub walk_members-loop-preserved : goal.walk_members-loop-preserved
 walk_members-loop-preserved t c =
-    goes_on c.loop.invariant
-    (member_at (omega arith) c.inside.ensures c.if-not-inside.false c.word_at-name.ensures c.cstring_at.ensures.0 c.in_ok-found.ensures.ok_part
-    c.word_at-below.ensures c.word_at.ensures)
-    c.in_chunk.ensures c.in_ok-next.ensures
-    c.walk_type.auto.types c.walk_type.auto.path (omega arith)
+    let found = text_found _ _ c.in_ok-name.ensures in
+    let kept = c.in_ok-walk_type.ensures.kept in
+    record {
+      going = goes_on c.loop.invariant.going
+          (member_at (omega arith) c.in_ok-record.ensures found c.word-in-loop.ensures c.word.ensures) found.is
+          (walked_within c.loop.invariant.kept.same.capacity c.in_ok-walk_type.ensures.walked)
+          kept.same.types_long (c.walk_type.new.filling.path_long ∙ sym c.loop.filling.path_long) (omega arith);
+      kept = types_then c.loop.invariant.kept kept;
+    }
 
 -- No member is left.
-pub walk_members-returns : goal.walk_members-returns
-walk_members-returns t c = ends c.loop.invariant (omega arith)
+pub walk_members-returns-clause-walked : goal.walk_members-returns-clause-walked
+walk_members-returns-clause-walked t c = ends c.loop.invariant.going (omega arith)
 
 -- Too deep.
-pub walk_type-returns-then-levels-eq0 : goal.walk_type-returns-then-levels-eq0
-walk_type-returns-then-levels-eq0 t c =
-    stops_deep c.requires c.args.sm5 c.args.at c.args.member.name c.args.member.offset c.if-levels-eq0.true
+pub walk_type-returns-then-levels-eq0-clause-walked : goal.walk_type-returns-then-levels-eq0-clause-walked
+walk_type-returns-then-levels-eq0-clause-walked t c = stops_deep _ _ _ _ _ _ _ _ _ _ c.if-levels-eq0.true
 
 -- Already on the path.
-pub walk_type-returns-then-contains : goal.walk_type-returns-then-contains
-walk_type-returns-then-contains t c =
-    stops_cycle c.requires c.args.sm5 c.args.at c.args.member.name c.args.member.offset
-    c.if-levels-eq0.false (sym (c.contains.ensures.value ∙ on_path_by_search _ _) ∙ c.if-contains.true)
+pub walk_type-returns-then-contains-clause-walked : goal.walk_type-returns-then-contains-clause-walked
+walk_type-returns-then-contains-clause-walked t c =
+    stops_cycle _ _ _ _ _ _ _ _ _ _ c.if-levels-eq0.false (sym (c.contains.ensures.value ∙ on_path_by_search _ _) ∙ c.if-contains.true)
 
 -- No room.
-pub walk_type-returns-then-capacity-n : goal.walk_type-returns-then-capacity-n
-walk_type-returns-then-capacity-n t c =
-    stops_full c.requires c.args.sm5 c.args.at c.args.member.name c.args.member.offset
-    c.if-levels-eq0.false (sym (c.contains.ensures.value ∙ on_path_by_search _ _) ∙ c.if-contains.false) c.if-capacity-n.true
+pub walk_type-returns-then-filling-n-clause-walked : goal.walk_type-returns-then-filling-n-clause-walked
+walk_type-returns-then-filling-n-clause-walked t c =
+    stops_full _ _ _ _ _ _ _ _ _ _ c.if-levels-eq0.false (sym (c.contains.ensures.value ∙ on_path_by_search _ _) ∙ c.if-contains.false) c.if-filling-n.true
 
 -- Past the chunk.
-pub walk_type-returns-then-not-inside : goal.walk_type-returns-then-not-inside
-walk_type-returns-then-not-inside t c =
-    stops_short c.requires c.args.sm5 c.args.at c.args.member.name c.args.member.offset
-    c.if-levels-eq0.false (sym (c.contains.ensures.value ∙ on_path_by_search _ _) ∙ c.if-contains.false) c.if-capacity-n.false
-    (sym (c.inside.ensures ∙ ap (inside (length c.args.chunk.now) c.args.at) c.type_stride.ensures) ∙ c.if-not-inside.true)
-
--- The members: one level deeper, after this node.
-pub walk_type-walk_members-requires : goal.walk_type-walk_members-requires
-walk_type-walk_members-requires t c =
-    let ready = c.requires.ready in (
-      omega (arith, c.if-levels-eq0.false),
-      record {
-        ready = record {
-          chunk-fits = ready.chunk-fits;
-          path_is = length-set c.args.path.now (type_levels - c.args.levels) c.args.at ∙ ready.path_is;
-          types_fit = record { taken = omega (arith, c.if-capacity-n.false); fits = omega (arith, ready.types_fit.fits, c.put_type.auto.table) };
-        };
-        levels_fit = omega (arith, c.requires.levels_fit);
-      },
-    )
+pub walk_type-returns-in_err-record-clause-walked : goal.walk_type-returns-in_err-record-clause-walked
+walk_type-returns-in_err-record-clause-walked t c =
+    let p = err_from_is_err_and c.from_residual.result c.from_residual.ensures.1 in
+    rw (p.1, p.2, c.in_err-record.ensures.refusal)
+    (stops_short _ _ _ _ _ _ _ _ _ _ c.if-levels-eq0.false (sym (c.contains.ensures.value ∙ on_path_by_search _ _) ∙ c.if-contains.false) c.if-filling-n.false
+    (sym (ap (inside (length c.args.chunk.bytes.now) c.args.at) c.type_stride.ensures) ∙ c.in_err-record.ensures.outside))
 
 -- The walk of the members refused.
-pub walk_type-returns-in_err-after : goal.walk_type-returns-in_err-after
-walk_type-returns-in_err-after t c =
-    let p = err_from_is_err_and c.from_residual.result c.from_residual.ensures.1 in
+pub walk_type-returns-in_err-walk_members-clause-walked : goal.walk_type-returns-in_err-walk_members-clause-walked
+walk_type-returns-in_err-walk_members-clause-walked t c =
+    let p = err_from_is_err_and c.from_residual-in_err-walk_members.result c.from_residual-in_err-walk_members.ensures.1 in
     rw (p.1, p.2)
     (stops_inside
-    (entered c.requires c.if-levels-eq0.false (c.contains.ensures.value ∙ on_path_by_search _ _) c.if-contains.false c.if-capacity-n.false c.type_stride.ensures c.inside.ensures
-    c.if-not-inside.false c.type_node-node.ensures c.put_type.ensures c.high_at-count.ensures c.word_at-first.ensures)
-    c.in_err-after.ensures)
+    (entered c.requires c.args.filling.now.path_long c.args.filling.now.types_fit c.if-levels-eq0.false
+    (c.contains.ensures.value ∙ on_path_by_search _ _) c.if-contains.false c.if-filling-n.false c.type_stride.ensures c.in_ok-record.ensures
+    c.type_node-node.ensures c.put_type.ensures c.high.ensures c.word.ensures)
+    c.in_err-walk_members.ensures.walked)
 
 -- All members are walked, and the type's name is bad.
-pub walk_type-returns-then-is_none : goal.walk_type-returns-then-is_none
-walk_type-returns-then-is_none t c =
+pub walk_type-returns-then-is_none-clause-walked : goal.walk_type-returns-then-is_none-clause-walked
+walk_type-returns-then-is_none-clause-walked t c =
     stops_unnamed
-    (entered c.requires c.if-levels-eq0.false (c.contains.ensures.value ∙ on_path_by_search _ _) c.if-contains.false c.if-capacity-n.false c.type_stride.ensures c.inside.ensures
-    c.if-not-inside.false c.type_node-node.ensures c.put_type.ensures c.high_at-count.ensures c.word_at-first.ensures)
-    c.in_ok-after.ensures (ap is_some (sym c.type_name_at-name.ensures.0) ∙ c.is_none.ensures ∙ ap not c.if-is_none.true)
+    (entered c.requires c.args.filling.now.path_long c.args.filling.now.types_fit c.if-levels-eq0.false
+    (c.contains.ensures.value ∙ on_path_by_search _ _) c.if-contains.false c.if-filling-n.false c.type_stride.ensures c.in_ok-record.ensures
+    c.type_node-node.ensures c.put_type.ensures c.high.ensures c.word.ensures)
+    c.in_ok-walk_members.ensures.walked
+    (named c.in_ok-record.ensures (ap is_some (sym c.type_name_at-name.ensures.is) ∙ c.is_none.ensures ∙ ap not c.if-is_none.true))
 
 -- All members are walked, and the type's name is good.
-pub walk_type-returns : goal.walk_type-returns
-walk_type-returns t c =
+pub walk_type-returns-clause-walked : goal.walk_type-returns-clause-walked
+walk_type-returns-clause-walked t c =
     arrives
-    (entered c.requires c.if-levels-eq0.false (c.contains.ensures.value ∙ on_path_by_search _ _) c.if-contains.false c.if-capacity-n.false c.type_stride.ensures c.inside.ensures
-    c.if-not-inside.false c.type_node-node.ensures c.put_type.ensures c.high_at-count.ensures c.word_at-first.ensures)
-    c.in_ok-after.ensures (ap is_some (sym c.type_name_at-name.ensures.0) ∙ c.is_none.ensures ∙ ap not c.if-is_none.false)
+    (entered c.requires c.args.filling.now.path_long c.args.filling.now.types_fit c.if-levels-eq0.false
+    (c.contains.ensures.value ∙ on_path_by_search _ _) c.if-contains.false c.if-filling-n.false c.type_stride.ensures c.in_ok-record.ensures
+    c.type_node-node.ensures c.put_type.ensures c.high.ensures c.word.ensures)
+    c.in_ok-walk_members.ensures.walked
+    (named c.in_ok-record.ensures (ap is_some (sym c.type_name_at-name.ensures.is) ∙ c.is_none.ensures ∙ ap not c.if-is_none.false))

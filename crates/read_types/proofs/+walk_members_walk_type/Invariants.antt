@@ -1,6 +1,7 @@
 -- `walk_members` and `walk_type` meet their contracts: each way out is one case of the walk. They end: the members of a type are walked with one level less,
 -- and their types with as many levels as the members. So `levels + levels` falls from a type to the types of its members, with the members' walk one above.
 use Rattle.std.proofs.Common.{◌+◌, ◌-◌}
+use Rattle.read_types.specs.Filling.{OnlyTypes}
 use Rattle.read_types.proofs.MembersWalk.{Going}
 use Rattle.read_types.proofs.+walk_members_walk_type.Given as goal
 
@@ -12,5 +13,8 @@ decreases-walk_type l = l.levels + l.levels
 
 -- The loop over the members.
 abbrev pub invariant-walk_members-loop : goal.invariant-walk_members-loop
-invariant-walk_members-loop l =
-    Going l.chunk l.sm5 l.first l.count l.levels l.capacity l.fn.counts l.fn.types l.fn.path l.types l.path l.next l.at (l.count - l.counter)
+invariant-walk_members-loop l = record {
+  going : Going l.members.chunk.bytes.now l.members.chunk.sm5 l.members.first l.members.count l.levels l.initial.filling.capacity l.initial.filling.counts
+      l.initial.filling.types.now l.initial.filling.path l.filling.types.now l.filling.path l.filling.counts l.at (l.members.count - l.counter);
+  kept : OnlyTypes l.initial.filling l.filling;
+}

@@ -1,16 +1,13 @@
 -- `put_name` meets its contract: the bytes, and after them the NUL where it has room.
-use mathlib.Core.Path.{sym, refl, ◌∙◌}
-use Rattle.words.proofs.Splice.{put_then, splice_one, splice_past_end}
-use Rattle.write_bytes.proofs.put_name.Goals.{then-end-out, else-end-out}
+use mathlib.Core.Path.{sym, refl}
+use Rattle.words.proofs.Splice.{splice_one, splice_past_end}
+use Rattle.text_output.proofs.Appended.{appended_then}
+use Rattle.write_bytes.proofs.put_name.Goals.{then-out, else-out}
 use Rattle.write_bytes.proofs.put_name.Goals as goal
 
 pub returns : goal.returns
 returns c =
-    let put = c.put_bytes-end in
-    put_then put.ensures (record {
-      list = elim c.if-end-out.branch [
-        | then-end-out w ↦ w.out-is ∙ sym (splice_one put.new.out put.result 0)
-        | else-end-out w ↦ w.out-is ∙ sym (splice_past_end put.new.out put.result _ w.if-end-out.false)
-      ];
-      next = refl;
-    })
+    appended_then c.put_bytes.ensures (elim c.if-out.branch [
+      | then-out w ↦ rw w.out-is (record { text = record { list = sym (splice_one _ _ 0); next = refl }; same = refl })
+      | else-out w ↦ rw w.out-is (record { text = record { list = sym (splice_past_end _ _ _ w.if-out.false); next = refl }; same = refl })
+    ])

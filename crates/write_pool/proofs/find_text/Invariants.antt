@@ -4,7 +4,7 @@ use Rattle.write_pool.proofs.Links.{Searching}
 use Rattle.write_pool.proofs.find_text.Given as goal
 
 abbrev pub invariant-loop-link : goal.invariant-loop-link
-invariant-loop-link l = Searching l.chunk l.edits l.pool l.wanted l.link
+invariant-loop-link l = Searching l.texts.chunk.now l.texts.edits.now l.pool l.wanted.bytes.now l.link
 
 abbrev pub decreases-loop-link : goal.decreases-loop-link
 decreases-loop-link l = l.link

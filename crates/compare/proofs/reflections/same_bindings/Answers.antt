@@ -14,8 +14,9 @@ use Rattle.compare.proofs.reflections.same_bindings.Goals as goal
 pub returns : goal.returns
 unfolding binding_in_table
 returns c =
-    all_from_yields_List (λ (i : ℕ). same_binding (same_name c.args.chunk.now c.args.edits.now) (same_name c.args.chunk.now c.args.edits.now)
+    let same = same_name c.args.texts.chunk.now c.args.texts.edits.now in
+    all_from_yields_List (λ (i : ℕ). same_binding same same
     (binding_in_table c.args.bindings.now i) (binding_in_table c.args.others.now i)) _ _ c.all.result c.all.ensures.ran
     (YieldsList-from_range 0 c.args.count c.args.count refl (omega arith)) (λ i b q k. search (rules, tests))
-    ∙ all_equal (same_binding (same_name c.args.chunk.now c.args.edits.now) (same_name c.args.chunk.now c.args.edits.now))
+    ∙ all_equal (same_binding same same)
     (binding_in_table c.args.bindings.now) (binding_in_table c.args.others.now) 0 c.args.count

@@ -1,4 +1,4 @@
--- The invariant of the loop of `same_buffers`: the buffers that are left decide, and the cursors are at their first variable and at the nodes where its type
+-- The invariant of the loop of `same_buffers`: the buffers that are left decide, and the place is at their first variable and at the nodes where its type
 -- begins.
 use mathlib.Core.Path.{◌≡◌}
 use Rattle.tables.specs.Decode.{records_from}
@@ -10,11 +10,14 @@ use Rattle.compare.proofs.reflections.same_buffers.Given as goal
 
 abbrev pub invariant-loop-i : goal.invariant-loop-i
 invariant-loop-i l =
-    (l.first ≡ first_variable l.buffers l.i)
-    × ((l.first ≡ first_variable l.other_buffers l.i)
-    × ((l.root ≡ root_at l.types l.first)
-    × ((l.other_root ≡ root_at l.other_types l.first)
-    × (same_list (same_buffer (same_name l.chunk l.edits) (same_name l.chunk l.edits)) (records_from (buffer_in_table l.buffers l.variables l.types) 0 l.count)
-    (records_from (buffer_in_table l.other_buffers l.other_variables l.other_types) 0 l.count)
-    ≡ rest_equal (same_buffer (same_name l.chunk l.edits) (same_name l.chunk l.edits)) (buffer_in_table l.buffers l.variables l.types)
-    (buffer_in_table l.other_buffers l.other_variables l.other_types) l.count l.i))))
+    let x = l.fn.x in
+    let y = l.fn.y in
+    let same = same_name l.fn.texts.chunk.now l.fn.texts.edits.now in
+    let in_x = buffer_in_table x.buffers.now x.variables.now x.types.now in
+    let in_y = buffer_in_table y.buffers.now y.variables.now y.types.now in
+    (l.next.variable ≡ first_variable x.buffers.now l.i)
+    × ((l.next.variable ≡ first_variable y.buffers.now l.i)
+    × ((l.next.root ≡ root_at x.types.now l.next.variable)
+    × ((l.next.other_root ≡ root_at y.types.now l.next.variable)
+    × (same_list (same_buffer same same) (records_from in_x 0 l.count) (records_from in_y 0 l.count)
+    ≡ rest_equal (same_buffer same same) in_x in_y l.count l.i))))

@@ -10,9 +10,12 @@ use Rattle.compare.proofs.reflections.same_variables.Given as goal
 
 abbrev pub invariant-loop-i : goal.invariant-loop-i
 invariant-loop-i l =
-    (l.k ≡ root_at l.types l.i)
-    × ((l.l ≡ root_at l.other_types l.i)
-    × (same_list (same_variable (same_name l.chunk l.edits) (same_name l.chunk l.edits)) (records_from (variable_in_table l.variables l.types) l.first l.count)
-    (records_from (variable_in_table l.other_variables l.other_types) l.first l.count)
-    ≡ rest_equal (same_variable (same_name l.chunk l.edits) (same_name l.chunk l.edits)) (variable_in_table l.variables l.types)
-    (variable_in_table l.other_variables l.other_types) (l.first + l.count) l.i))
+    let x = l.fn.x in
+    let y = l.fn.y in
+    let same = same_name l.fn.texts.chunk.now l.fn.texts.edits.now in
+    (l.k ≡ root_at x.types.now l.i)
+    × ((l.l ≡ root_at y.types.now l.i)
+    × (same_list (same_variable same same) (records_from (variable_in_table x.variables.now x.types.now) l.fn.from.variable l.count)
+    (records_from (variable_in_table y.variables.now y.types.now) l.fn.from.variable l.count)
+    ≡ rest_equal (same_variable same same) (variable_in_table x.variables.now x.types.now)
+    (variable_in_table y.variables.now y.types.now) (l.fn.from.variable + l.count) l.i))

@@ -14,10 +14,11 @@ decreases-same_type_between l = l.levels + l.levels
 
 abbrev pub invariant-same_members-loop-m : goal.invariant-same_members-loop-m
 invariant-same_members-loop-m l =
-    same_members (same_name l.chunk l.edits) (members_at (tree_at l.types l.levels) l.types l.m l.a).it
-    (members_at (tree_at l.others l.levels) l.others l.n l.b).it
-    ≡ same_members (same_name l.chunk l.edits) (members_at (tree_at l.types l.levels) l.types l.left l.i).it
-    (members_at (tree_at l.others l.levels) l.others l.other_left l.j).it
+    same_members (same_name l.texts.chunk.now l.texts.edits.now)
+    (members_at (tree_at l.x.types.now l.levels) l.x.types.now l.m (l.x.node + 1)).it
+    (members_at (tree_at l.y.types.now l.levels) l.y.types.now l.n (l.y.node + 1)).it
+    ≡ same_members (same_name l.texts.chunk.now l.texts.edits.now) (members_at (tree_at l.x.types.now l.levels) l.x.types.now l.left l.i).it
+    (members_at (tree_at l.y.types.now l.levels) l.y.types.now l.other_left l.j).it
 
 abbrev pub decreases-same_members-loop-m : goal.decreases-same_members-loop-m
 decreases-same_members-loop-m l = l.left

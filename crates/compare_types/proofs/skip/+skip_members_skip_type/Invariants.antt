@@ -10,9 +10,10 @@ decreases-skip_members l = l.levels + l.levels + 1
 abbrev pub decreases-skip_type : goal.decreases-skip_type
 decreases-skip_type l = l.levels + l.levels
 
-abbrev pub invariant-skip_members-loop-next : goal.invariant-skip_members-loop-next
-invariant-skip_members-loop-next l =
-    (members_at (tree_at l.types l.levels) l.types l.count l.k).next ≡ (members_at (tree_at l.types l.levels) l.types l.left l.next).next
+abbrev pub invariant-skip_members-loop-member : goal.invariant-skip_members-loop-member
+invariant-skip_members-loop-member l =
+    (members_at (tree_at l.x.types.now l.levels) l.x.types.now l.count (l.x.node + 1)).next
+    ≡ (members_at (tree_at l.x.types.now l.levels) l.x.types.now l.left l.next).next
 
-abbrev pub decreases-skip_members-loop-next : goal.decreases-skip_members-loop-next
-decreases-skip_members-loop-next l = l.left
+abbrev pub decreases-skip_members-loop-member : goal.decreases-skip_members-loop-member
+decreases-skip_members-loop-member l = l.left

@@ -2,8 +2,8 @@
 use mathlib.Core.Path.{◌≡◌}
 use Prim.Native.Nat.{◌-◌}
 use native.Mathlib.Omega.{arith}
-use Rattle.words.proofs.Splice.{put_then}
 use Rattle.text_output.specs.Digits.{decimal}
+use Rattle.text_output.proofs.Appended.{appended_then}
 use Rattle.listing.specs.Listing.{scalars, pad_to}
 use Rattle.listing.proofs.Padding.{decimal_scalars}
 use Rattle.listing.proofs.column.put_number.Goals as goal
@@ -12,7 +12,6 @@ pub returns-clause-text : goal.returns-clause-text
 unfolding pad_to
 returns-clause-text c =
     let n = c.args.n in
-    let space = c.put_byte-start in
-    let digits = c.put_decimal-end in
-    let used : digits.result - space.result ≡ scalars (decimal n) = omega (arith, digits.ensures.text.next, decimal_scalars n) in
-    put_then space.ensures (put_then digits.ensures.text (rw used at c.pad.ensures))
+    let digits = c.put_decimal.ensures.text in
+    let used : c.put_decimal.new.self.at - c.put_byte.new.self.at ≡ scalars (decimal n) = omega (arith, digits.text.next, decimal_scalars n) in
+    appended_then c.put_byte.ensures (appended_then digits (rw used at c.pad.ensures))

@@ -1,21 +1,36 @@
 -- `put_set_names` meets its contract: each name is joined to those before it, in the order of the bits.
 use mathlib.Core.List.{[]}
-use Rattle.words.proofs.Splice.{put_none}
-use Rattle.listing.proofs.Joined.{five_joined}
+use mathlib.Core.Path.{◌≡◌, refl, sym}
+use native.Mathlib.Omega.{arith}
+use Rattle.text_output.proofs.Appended.{appended_none}
+use Rattle.listing.proofs.Joined.{five_joined, pair_first}
 use Rattle.listing.proofs.flag_names.put_set_names.Goals as goal
+
+pub loop-set-init : goal.loop-set-init
+loop-set-init c =
+    let a = c.args in
+    let joined = five_joined a.flags.0 c.user_packed.ensures c.comparison_sampler.ensures c.texture_component_0.ensures c.texture_component_1.ensures
+    c.unused.ensures in
+    ((refl, (omega (arith, c.requires), (omega arith, (omega arith, (omega arith, (omega arith, (omega arith, tt))))))), ([], (appended_none a.out.now, joined)))
+
+pub put_flag-requires : goal.put_flag-requires
+put_flag-requires c =
+    let left = rw (pair_first _ _ c.loop-set-test.true) at c.loop-set.invariant.0.1 in
+    (omega (arith, left.0), left.1.0)
+
+pub loop-set-preserved : goal.loop-set-preserved
+loop-set-preserved c =
+    let l = c.loop-set in
+    let left = rw (pair_first _ _ c.loop-set-test.true) at l.invariant.0.1 in
+    let (before, (put, joined)) = l.invariant.1 in
+    let next = rw (pair_first _ _ c.loop-set-test.true) at joined in (
+      (l.invariant.0.0, (omega (arith, c.put_flag.ensures.near, left.0), left.1.1)),
+      (_, (c.put_flag.ensures.names _ before (sym l.invariant.0.0) put, next)),
+    )
 
 pub returns : goal.returns
 returns c =
-    let a = c.args in
-    let out = a.out.now in
-    let one = c.put_flag-at.ensures.names out [] (put_none out a.start) in
-    let two = c.put_flag-at-2.ensures.names out _ one in
-    let three = c.put_flag-at-3.ensures.names out _ two in
-    let four = c.put_flag-at-4.ensures.names out _ three in
-    let five = c.put_flag.ensures.names out _ four in
-    let packed = c.user_packed.ensures in
-    let comparison = c.comparison_sampler.ensures in
-    let component-0 = c.texture_component_0.ensures in
-    let component-1 = c.texture_component_1.ensures in
-    let unused = c.unused.ensures in
-    rw (← five_joined a.flags.0 packed comparison component-0 component-1 unused) five
+    let l = c.loop-set in
+    let end : l.set-index ≡ 5 = omega (arith, c.loop-set-test.false, l.auto.set-index-end) in
+    let (before, (put, joined)) = l.invariant.1 in
+    rw (← (rw end at joined)) put

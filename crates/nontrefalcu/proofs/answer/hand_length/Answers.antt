@@ -1,20 +1,15 @@
--- `hand_length` meets its contract: the answer as an outcome has its number, and the length on the cleared words.
-use mathlib.Core.Path.{refl, ◌∙◌}
-use Rattle.nontrefalcu.proofs.HandedOut.{value_number, refused_number, value_table, refused_table}
-use Rattle.nontrefalcu.proofs.WrittenText.{wrote_fits}
-use borrow.Author.Rules.{rules}
+-- `hand_length` meets its contract: a written length is a word.
+use mathlib.Core.Path.{◌∙◌}
+use lib.ListN.{length}
+use Rattle.nontrefalcu.specs.Exports.{one_word}
+use Rattle.nontrefalcu.proofs.HandedOut.{mapped_number, mapped_table}
 use Rattle.nontrefalcu.proofs.answer.hand_length.Goals as goal
 
-pub overflow_cast-one : goal.overflow_cast-one
-overflow_cast-one c =
-    let fits = wrote_fits c.requires c.in-Ok.is in search rules
-
-pub returns-in-Err : goal.returns-in-Err
-returns-in-Err c =
-    let refusal = c.in-Err.is in record { answer = c.from.ensures ∙ refused_number refusal; length = refused_table _ _ c.clear.ensures refusal }
-
-pub returns-in-Ok : goal.returns-in-Ok
-returns-in-Ok c =
-    let zeros = c.clear.ensures in
-    let wrote = c.in-Ok.is in
-    record { answer = value_number wrote; length = value_table _ _ zeros wrote refl c.overwrite.ensures }
+pub returns : goal.returns
+returns c =
+    let handed = c.hand.ensures in
+    let cases = c.map.ensures.cases in
+    record {
+      answer = handed.number ∙ mapped_number one_word _ _ cases;
+      length = handed.words ∙ mapped_table one_word _ _ (length c.args.length.now) cases;
+    }

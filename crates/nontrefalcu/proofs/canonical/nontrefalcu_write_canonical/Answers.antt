@@ -17,7 +17,7 @@ returns c =
     let a = c.args in
     let asked = ap (λ (h : Header). write (length a.scratch.now) (length a.out.now)
     (table_contents a.chunk.now a.edits.now h a.bindings.now a.buffers.now a.variables.now a.types.now))
-    c.header_at-def.ensures in
+    c.header_at.ensures in
     let wrote = c.write_rdef_canonical-written.ensures in
     let handed = c.hand_length.ensures in
     record { text = handed_out asked _ _ (wrote.written.answer, wrote.written.out) (handed.answer, handed.length); scratch = wrote.scratch }

@@ -19,7 +19,7 @@ returns c =
     let asked =
     ap₂ (λ (t : TypeDesc). λ (v : CBufferVariable). fitting (length a.out.now) (declaration a.chunk.now a.edits.now t v.name))
     c.type_at-t.ensures
-    c.variable_at-variable.ensures in
+    c.variable_at.ensures in
     let wrote = c.declaration-written.ensures in
     let handed = c.hand_length.ensures in
     handed_out asked _ _ (wrote.answer, wrote.out) (handed.answer, handed.length)

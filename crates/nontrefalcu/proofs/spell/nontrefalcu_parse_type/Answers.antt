@@ -1,19 +1,20 @@
--- `nontrefalcu_parse_type` meets its contract: the answer of `parse_hlsl_type` as an outcome has its number, and the five numbers on the cleared words.
-use mathlib.Core.Path.{refl, sym, ◌∙◌}
-use Rattle.nontrefalcu.specs.Exports.{type_read, spelling_words}
-use Rattle.nontrefalcu.proofs.HandedOut.{value_number, refused_number, value_table, refused_table}
+-- `nontrefalcu_parse_type` meets its contract: the number of what the text spells, and its five numbers.
+use mathlib.Core.Path.{ap, ◌∙◌}
+use lib.ListN.{length}
+use Rattle.reflection.specs.Outcome.{Outcome}
+use Rattle.spelling_parse.specs.declared.TypeSpelling.{TypeSpelling}
+use Rattle.nontrefalcu.specs.Exports.{number_of, spelling_table, spelling_words, type_read}
+use Rattle.nontrefalcu.proofs.HandedOut.{mapped_number, mapped_table}
 use Rattle.nontrefalcu.proofs.spell.nontrefalcu_parse_type.Goals as goal
 
-pub returns-in-Err : goal.returns-in-Err
+pub returns : goal.returns
 unfolding type_read
-returns-in-Err c =
-    let zeros = c.clear.ensures in
-    let outcome = sym c.parse_hlsl_type-spelled.ensures ∙ c.in-Err.is in
-    record { answer = c.from.ensures ∙ refused_number outcome; numbers = refused_table _ _ zeros outcome }
-
-pub returns-in-Ok : goal.returns-in-Ok
-unfolding type_read spelling_words
-returns-in-Ok c =
-    let zeros = c.clear.ensures in
-    let outcome = sym c.parse_hlsl_type-spelled.ensures ∙ c.in-Ok.is in
-    record { answer = value_number outcome; numbers = value_table _ _ zeros outcome refl c.overwrite.ensures }
+returns c =
+    let handed = c.hand.ensures in
+    let spelled = c.parse_hlsl_type-spelled.ensures in
+    let cases = c.map.ensures.cases in
+    let n = length c.args.numbers.now in
+    record {
+      answer = handed.number ∙ mapped_number spelling_words _ _ cases ∙ ap (λ (o : Outcome TypeSpelling). number_of o) spelled;
+      numbers = handed.words ∙ mapped_table spelling_words _ _ n cases ∙ ap (λ (o : Outcome TypeSpelling). spelling_table o n) spelled;
+    }

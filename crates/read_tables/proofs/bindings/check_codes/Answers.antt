@@ -24,8 +24,8 @@ returns-in_err-map_err c =
     let is : c.in_err-map_err.field-0.0 ≡ BadInputType =
     mapped c.try_from.result c.in_err-map_err.was c.map_err.ensures.cases (λ e y q. search rules) in
     rw (p.1, p.2, is)
-    (sym (fault_in_type c.args.chunk.now c.args.at
-    (came_out (known input_types) c.word_at.ensures (input_type_known _ _ c.try_from.ensures.0) (sym c.in_err-map_err.ensures.variant))))
+    (sym (fault_in_type c.args.binding.chunk.bytes.now c.args.binding.at
+    (came_out (known input_types) c.word.ensures (input_type_known _ _ c.try_from.ensures.0) (sym c.in_err-map_err.ensures.variant))))
 
 pub returns-in_err-map_err-2 : goal.returns-in_err-map_err-2
 returns-in_err-map_err-2 c =
@@ -33,20 +33,20 @@ returns-in_err-map_err-2 c =
     let is : c.in_err-map_err-2.field-0.0 ≡ BadDimension =
     mapped c.try_from-2.result c.in_err-map_err-2.was c.map_err-2.ensures.cases (λ e y q. search rules) in
     rw (p.1, p.2, is)
-    (sym (fault_in_dimension c.args.chunk.now c.args.at
-    (came_out (known input_types) c.word_at.ensures (input_type_known _ _ c.try_from.ensures.0) (sym c.in_ok-map_err.ensures.variant))
-    (came_out (known srv_dimensions) c.word_at-2.ensures (dimension_known _ _ c.try_from-2.ensures.0) (sym c.in_err-map_err-2.ensures.variant))))
+    (sym (fault_in_dimension c.args.binding.chunk.bytes.now c.args.binding.at
+    (came_out (known input_types) c.word.ensures (input_type_known _ _ c.try_from.ensures.0) (sym c.in_ok-map_err.ensures.variant))
+    (came_out (known srv_dimensions) c.word-2.ensures (dimension_known _ _ c.try_from-2.ensures.0) (sym c.in_err-map_err-2.ensures.variant))))
 
 pub returns-then-allowed : goal.returns-then-allowed
 returns-then-allowed c =
-    sym (no_fault c.args.chunk.now c.args.at
-    (came_out (known input_types) c.word_at.ensures (input_type_known _ _ c.try_from.ensures.0) (sym c.in_ok-map_err.ensures.variant))
-    (came_out (known srv_dimensions) c.word_at-2.ensures (dimension_known _ _ c.try_from-2.ensures.0) (sym c.in_ok-map_err-2.ensures.variant))
-    (came_out binding_flags_allowed c.word_at-3.ensures c.allowed.ensures c.if-allowed.true))
+    sym (no_fault c.args.binding.chunk.bytes.now c.args.binding.at
+    (came_out (known input_types) c.word.ensures (input_type_known _ _ c.try_from.ensures.0) (sym c.in_ok-map_err.ensures.variant))
+    (came_out (known srv_dimensions) c.word-2.ensures (dimension_known _ _ c.try_from-2.ensures.0) (sym c.in_ok-map_err-2.ensures.variant))
+    (came_out binding_flags_allowed c.word-3.ensures c.allowed.ensures c.if-allowed.true))
 
 pub returns-else-allowed : goal.returns-else-allowed
 returns-else-allowed c =
-    sym (fault_in_flags c.args.chunk.now c.args.at
-    (came_out (known input_types) c.word_at.ensures (input_type_known _ _ c.try_from.ensures.0) (sym c.in_ok-map_err.ensures.variant))
-    (came_out (known srv_dimensions) c.word_at-2.ensures (dimension_known _ _ c.try_from-2.ensures.0) (sym c.in_ok-map_err-2.ensures.variant))
-    (came_out binding_flags_allowed c.word_at-3.ensures c.allowed.ensures c.if-allowed.false))
+    sym (fault_in_flags c.args.binding.chunk.bytes.now c.args.binding.at
+    (came_out (known input_types) c.word.ensures (input_type_known _ _ c.try_from.ensures.0) (sym c.in_ok-map_err.ensures.variant))
+    (came_out (known srv_dimensions) c.word-2.ensures (dimension_known _ _ c.try_from-2.ensures.0) (sym c.in_ok-map_err-2.ensures.variant))
+    (came_out binding_flags_allowed c.word-3.ensures c.allowed.ensures c.if-allowed.false))

@@ -1,56 +1,86 @@
-use mathlib.Core.Path.{◌≡◌, sym, ◌∙◌}
+use mathlib.Core.Path.{sym, ◌∙◌}
 use native.Mathlib.Omega.{arith}
 use Rattle.std.proofs.lemmas.Result.{err_from_is_err_and}
-use Rattle.reflection.specs.declared.refusal.Refusal.TheVariants.{BadName}
+use Rattle.words.specs.Words.{word_at}
+use Rattle.text.specs.Strings.{cstring_at}
+use Rattle.tables.specs.Tables.{binding_record}
+use Rattle.read_spec.specs.Read.{binding_from_chunk}
+use Rattle.read_types.proofs.InChunk.{not_found, text_found, in_record}
+use Rattle.read_tables.specs.Bindings.{code_check}
 use Rattle.read_tables.proofs.Loop.{ends, stops, goes_on}
 use Rattle.read_tables.proofs.Grown.{bindings_grown}
 use Rattle.read_tables.proofs.OneBinding.{binding_full, binding_short, binding_coded_wrong, binding_named_badly, binding_written}
 use Rattle.read_tables.proofs.bindings.walk_bindings.Goals as goal
 
-pub returns-then-capacity-n : goal.returns-then-capacity-n
-returns-then-capacity-n c =
-    stops c.loop.invariant (omega arith)
-    (binding_full _ _ _ c.args.capacity c.loop.next _ c.if-capacity-n.true)
+pub returns-then-filling-n-clause-walked : goal.returns-then-filling-n-clause-walked
+returns-then-filling-n-clause-walked c =
+    stops c.loop.invariant.going (omega arith)
+    (binding_full _ _ _ c.args.filling.now.capacity c.loop.filling.counts _ (rw c.loop.invariant.kept.same.capacity at c.if-filling-n.true))
 
-pub returns-then-not-inside : goal.returns-then-not-inside
-returns-then-not-inside c =
-    stops c.loop.invariant (omega arith)
-    (binding_short _ _ _ c.args.capacity c.loop.next _ c.if-capacity-n.false
-    (cc (c.inside.ensures, c.binding_stride-stride.ensures.0, c.if-not-inside.true)))
-
-pub returns-in_err-check_codes : goal.returns-in_err-check_codes
-returns-in_err-check_codes c =
+pub returns-in_err-record-clause-walked : goal.returns-in_err-record-clause-walked
+returns-in_err-record-clause-walked c =
     let p = err_from_is_err_and c.from_residual.result c.from_residual.ensures.1 in
-    rw (p.1, p.2)
-    (stops c.loop.invariant (omega arith)
-    (binding_coded_wrong _ _ _ c.args.capacity c.loop.next _ c.if-capacity-n.false
-    (cc (c.inside.ensures, c.binding_stride-stride.ensures.0, c.if-not-inside.false))
-    c.in_err-check_codes.field-0.0 (sym c.in_err-check_codes.ensures)))
+    rw (p.1, p.2, c.in_err-record.ensures.refusal)
+    (stops c.loop.invariant.going (omega arith)
+    (binding_short _ _ _ c.args.filling.now.capacity c.loop.filling.counts _ (rw c.loop.invariant.kept.same.capacity at c.if-filling-n.false)
+    (cc (c.in_err-record.ensures.outside, c.binding_stride-stride.ensures))))
 
-pub returns-in_err-found : goal.returns-in_err-found
-returns-in_err-found c =
-    let p = err_from_is_err_and c.from_residual-in_err-found.result c.from_residual-in_err-found.ensures.1 in
-    let none = c.in_err-found.ensures.ok_part in
-    let bad : p.0 ≡ BadName = grind arith in
-    rw (p.1, bad)
-    (stops c.loop.invariant (omega arith)
-    (binding_named_badly _ _ _ c.args.capacity c.loop.next _ c.if-capacity-n.false
-    (cc (c.inside.ensures, c.binding_stride-stride.ensures.0, c.if-not-inside.false))
-    (sym c.in_ok-check_codes.ensures)
-    (cc (c.cstring_at.ensures.0, c.word_at-name.ensures, c.in_err-found.ensures.ok_part))))
+pub returns-in_err-check_codes-clause-walked : goal.returns-in_err-check_codes-clause-walked
+returns-in_err-check_codes-clause-walked c =
+    let p = err_from_is_err_and c.from_residual-in_err-check_codes.result c.from_residual-in_err-check_codes.ensures.1 in
+    let read = c.in_ok-record.ensures in
+    rw (p.1, p.2)
+    (stops c.loop.invariant.going (omega arith)
+    (binding_coded_wrong _ _ _ c.args.filling.now.capacity c.loop.filling.counts _ (rw c.loop.invariant.kept.same.capacity at c.if-filling-n.false)
+    (cc (read.fits, c.binding_stride-stride.ensures))
+    c.in_err-check_codes.field-0.0 (sym (in_record (λ s five wide at. code_check s at) read) ∙ sym c.in_err-check_codes.ensures)))
+
+pub returns-in_err-name-clause-walked : goal.returns-in_err-name-clause-walked
+returns-in_err-name-clause-walked c =
+    let p = err_from_is_err_and c.from_residual-in_err-name.result c.from_residual-in_err-name.ensures.1 in
+    let read = c.in_ok-record.ensures in
+    let bad = not_found _ c.in_err-name.ensures in
+    rw (p.1, p.2, bad.refusal)
+    (stops c.loop.invariant.going (omega arith)
+    (binding_named_badly _ _ _ c.args.filling.now.capacity c.loop.filling.counts _ (rw c.loop.invariant.kept.same.capacity at c.if-filling-n.false)
+    (cc (read.fits, c.binding_stride-stride.ensures))
+    (sym (in_record (λ s five wide at. code_check s at) read) ∙ sym c.in_ok-check_codes.ensures)
+    (sym (in_record (λ s five wide at. cstring_at s (word_at s at)) read) ∙ bad.none)))
 
 pub loop-preserved : goal.loop-preserved
 loop-preserved c =
-    goes_on c.loop.invariant (omega arith)
-    (binding_written c.requires _ _ c.loop.next _ c.loop.invariant.long c.if-capacity-n.false
-    (cc (c.inside.ensures, c.binding_stride-stride.ensures.0, c.if-not-inside.false))
-    (sym c.in_ok-check_codes.ensures)
-    (cc (c.cstring_at.ensures.0, c.word_at-name.ensures, c.in_ok-found.ensures.ok_part))
-    c.in_chunk.ensures c.binding_record-binding.ensures c.put_binding.ensures)
-    (bindings_grown c.args.capacity c.loop.invariant.grew c.if-capacity-n.false)
-    (c.put_binding.auto.table ∙ c.loop.invariant.long)
-    c.binding_stride-stride.ensures.0 (omega arith)
+    let kept = c.loop.invariant.kept in
+    let same = kept.same in
+    let read = c.in_ok-record.ensures in
+    let free = rw same.capacity at c.if-filling-n.false in
+    let found = text_found _ _ c.in_ok-name.ensures in
+    record {
+      going = goes_on c.loop.invariant.going (omega arith)
+          (binding_written _ _ _ c.args.filling.now.capacity c.loop.filling.counts _ (rw same.capacity at c.loop.filling.bindings_fit) free
+          (cc (read.fits, c.binding_stride-stride.ensures))
+          (sym (in_record (λ s five wide at. code_check s at) read) ∙ sym c.in_ok-check_codes.ensures)
+          (sym (in_record (λ s five wide at. cstring_at s (word_at s at)) read) ∙ found.some) found.is
+          (c.binding_record.ensures ∙ in_record (λ s five wide at. binding_record (binding_from_chunk s wide at c.in_ok-name.name)) read)
+          c.put_binding.ensures)
+          (bindings_grown c.args.filling.now.capacity c.loop.invariant.going.grew free)
+          c.binding_stride-stride.ensures (omega arith);
+      kept = record {
+        same = record {
+          bindings = same.bindings;
+          buffers = same.buffers;
+          variables = same.variables;
+          types = same.types;
+          bindings_long = c.put_binding.auto.table ∙ same.bindings_long;
+          buffers_long = same.buffers_long;
+          variables_long = same.variables_long;
+          types_long = same.types_long;
+          capacity = same.capacity;
+        };
+        buffers = kept.buffers;
+        variables = kept.variables;
+        types = kept.types;
+      };
+    }
 
-pub returns : goal.returns
-returns c =
-    ends c.loop.invariant (omega arith)
+pub returns-clause-walked : goal.returns-clause-walked
+returns-clause-walked c = ends c.loop.invariant.going (omega arith)

@@ -1,78 +1,104 @@
 use mathlib.Core.Path.{◌≡◌, refl, sym, ◌∙◌}
+use Prim.Native.Nat.{ℕ, ◌+◌, ◌<◌}
 use native.Mathlib.Omega.{arith}
 use Rattle.std.proofs.lemmas.Result.{err_from_is_err_and}
-use Rattle.reflection.specs.declared.refusal.Refusal.TheVariants.{BadName}
-use Rattle.read_tables.specs.Buffers.{buffers_in}
+use Rattle.words.specs.Words.{word_at}
+use Rattle.text.specs.Strings.{cstring_at}
+use Rattle.reflection.specs.Strides.{buffer_stride}
+use Rattle.read_spec.specs.declared.Counts.{Counts}
+use Rattle.read_types.specs.declared.chunk.Chunk.{Chunk}
+use Rattle.read_types.specs.declared.chunk.Record.{Record}
+use Rattle.read_types.specs.Chunk.{RecordAt}
+use Rattle.read_types.proofs.InChunk.{not_found, text_found, in_record}
+use Rattle.read_tables.specs.Buffers.{buffer_record_in_chunk, buffers_in}
 use Rattle.read_tables.proofs.Loop.{ends, stops, goes_on}
 use Rattle.read_tables.proofs.Grown.{buffers_grown}
 use Rattle.read_tables.proofs.OneBuffer.{buffer_full, buffer_short, BufferEntered, buffer_refused, buffer_named_badly, buffer_filled}
 use Rattle.read_tables.proofs.buffers.walk_buffers.Goals as goal
 
-pub returns-then-capacity-n : goal.returns-then-capacity-n
-returns-then-capacity-n c =
-    stops c.loop.invariant (omega arith)
-    (buffer_full _ _ _ c.args.capacity c.loop.next _ c.if-capacity-n.true)
+-- A buffer's record was read.
+entered : {chunk : Chunk} {r : Record} {at many start : ℕ} {capacity n : Counts} → n.buffers < capacity.buffers → RecordAt chunk at buffer_stride r
+    → many ≡ word_at r.chunk.bytes.now (r.at + 4) → start ≡ word_at r.chunk.bytes.now (r.at + 8)
+    → BufferEntered chunk.bytes.now at capacity n many start
+entered free read many start = record {
+  free = free;
+  fits = read.fits;
+  is_many = many ∙ in_record (λ s five wide at. word_at s (at + 4)) read;
+  is_start = start ∙ in_record (λ s five wide at. word_at s (at + 8)) read;
+}
 
-pub returns-then-not-inside : goal.returns-then-not-inside
-returns-then-not-inside c =
-    stops c.loop.invariant (omega arith)
-    (buffer_short _ _ _ c.args.capacity c.loop.next _ c.if-capacity-n.false
-    (sym c.inside.ensures ∙ c.if-not-inside.true))
+pub returns-then-filling-n-clause-walked : goal.returns-then-filling-n-clause-walked
+returns-then-filling-n-clause-walked c =
+    stops c.loop.invariant.going (omega arith)
+    (buffer_full _ _ _ c.args.filling.now.capacity c.loop.filling.counts _ (rw c.loop.invariant.kept.same.capacity at c.if-filling-n.true))
 
-pub returns-in_err-next : goal.returns-in_err-next
-returns-in_err-next c =
+pub returns-in_err-record-clause-walked : goal.returns-in_err-record-clause-walked
+returns-in_err-record-clause-walked c =
     let p = err_from_is_err_and c.from_residual.result c.from_residual.ensures.1 in
-    let entered : BufferEntered c.args.chunk.now c.loop.at c.args.capacity c.loop.next _ _ = record {
-      free = c.if-capacity-n.false;
-      fits = sym c.inside.ensures ∙ c.if-not-inside.false;
-      is_many = c.word_at-many.ensures;
-      is_start = c.word_at-start.ensures;
-    } in
-    rw (p.1, p.2)
-    (stops c.loop.invariant (omega arith) {after = buffers_in c.loop.buffers c.walk_variables.new.variables c.walk_variables.new.types}
-    (buffer_refused entered _ _ _ _ _ _ c.in_err-next.ensures))
+    rw (p.1, p.2, c.in_err-record.ensures.refusal)
+    (stops c.loop.invariant.going (omega arith)
+    (buffer_short _ _ _ c.args.filling.now.capacity c.loop.filling.counts _ (rw c.loop.invariant.kept.same.capacity at c.if-filling-n.false)
+    c.in_err-record.ensures.outside))
 
-pub returns-in_err-found : goal.returns-in_err-found
-returns-in_err-found c =
-    let p = err_from_is_err_and c.from_residual-in_err-found.result c.from_residual-in_err-found.ensures.1 in
-    let none = c.in_err-found.ensures.ok_part in
-    let bad : p.0 ≡ BadName = grind arith in
-    let entered : BufferEntered c.args.chunk.now c.loop.at c.args.capacity c.loop.next _ _ = record {
-      free = c.if-capacity-n.false;
-      fits = sym c.inside.ensures ∙ c.if-not-inside.false;
-      is_many = c.word_at-many.ensures;
-      is_start = c.word_at-start.ensures;
-    } in
-    rw (p.1, bad)
-    (stops c.loop.invariant (omega arith) {after = buffers_in c.loop.buffers c.walk_variables.new.variables c.walk_variables.new.types}
-    (buffer_named_badly entered _ _ _ _ _ _ c.in_ok-next.ensures
-    (cc (c.cstring_at.ensures.0, c.word_at-name.ensures, none))))
+pub returns-in_err-walk_variables-clause-walked : goal.returns-in_err-walk_variables-clause-walked
+returns-in_err-walk_variables-clause-walked c =
+    let p = err_from_is_err_and c.from_residual-in_err-walk_variables.result c.from_residual-in_err-walk_variables.ensures.1 in
+    let same = c.loop.invariant.kept.same in
+    let new = c.walk_variables.new.filling in
+    rw (p.1, p.2)
+    (stops c.loop.invariant.going (omega arith) {after = buffers_in new.buffers.now new.variables.now new.types.now}
+    (buffer_refused
+    (entered (rw same.capacity at c.if-filling-n.false) c.in_ok-record.ensures c.word-in-loop.ensures c.word.ensures)
+    _ _ _ _ _ _ (rw same.capacity at c.in_err-walk_variables.ensures.walked)))
+
+pub returns-in_err-name-clause-walked : goal.returns-in_err-name-clause-walked
+returns-in_err-name-clause-walked c =
+    let p = err_from_is_err_and c.from_residual-in_err-name.result c.from_residual-in_err-name.ensures.1 in
+    let same = c.loop.invariant.kept.same in
+    let read = c.in_ok-record.ensures in
+    let bad = not_found _ c.in_err-name.ensures in
+    let new = c.walk_variables.new.filling in
+    rw (p.1, p.2, bad.refusal)
+    (stops c.loop.invariant.going (omega arith) {after = buffers_in new.buffers.now new.variables.now new.types.now}
+    (buffer_named_badly
+    (entered (rw same.capacity at c.if-filling-n.false) read c.word-in-loop.ensures c.word.ensures)
+    _ _ _ _ _ _ (rw same.capacity at c.in_ok-walk_variables.ensures.walked)
+    (sym (in_record (λ s five wide at. cstring_at s (word_at s at)) read) ∙ bad.none)))
 
 pub loop-preserved : goal.loop-preserved
 loop-preserved c =
-    let entered : BufferEntered c.args.chunk.now c.loop.at c.args.capacity c.loop.next _ _ = record {
-      free = c.if-capacity-n.false;
-      fits = sym c.inside.ensures ∙ c.if-not-inside.false;
-      is_many = c.word_at-many.ensures;
-      is_start = c.word_at-start.ensures;
-    } in
-    let long = c.loop.invariant.long in
-    goes_on c.loop.invariant (omega arith)
-    (buffer_filled entered _ _ _ _ _ _ c.in_ok-next.ensures c.requires long.0
-    (cc (c.cstring_at.ensures.0, c.word_at-name.ensures, c.in_ok-found.ensures.ok_part))
-    c.in_chunk.ensures c.buffer_record-buffer.ensures c.put_buffer.ensures)
-    (buffers_grown c.args.capacity c.loop.invariant.grew c.if-capacity-n.false c.in_ok-next.ensures.grew) (
-      c.put_buffer.auto.table ∙ long.0,
-      (
-        c.walk_variables.auto.variables ∙ long.1.0,
-        (
-          c.walk_variables.auto.types ∙ long.1.1.0,
-          c.walk_variables.auto.path ∙ long.1.1.1,
-        ),
-      ),
-    )
-    refl (omega arith)
+    let kept = c.loop.invariant.kept in
+    let same = kept.same in
+    let read = c.in_ok-record.ensures in
+    let free = rw same.capacity at c.if-filling-n.false in
+    let walked = rw same.capacity at c.in_ok-walk_variables.ensures.walked in
+    let then = c.in_ok-walk_variables.ensures.kept in
+    let found = text_found _ _ c.in_ok-name.ensures in
+    record {
+      going = goes_on c.loop.invariant.going (omega arith)
+          (buffer_filled
+          (entered free read c.word-in-loop.ensures c.word.ensures)
+          _ _ _ _ _ _ walked (rw same.capacity at c.loop.filling.buffers_fit)
+          (sym (in_record (λ s five wide at. cstring_at s (word_at s at)) read) ∙ found.some) found.is
+          (c.buffer_record.ensures ∙ in_record (λ s five wide at. buffer_record_in_chunk s at c.in_ok-name.name) read)
+          (rw then.buffers at c.put_buffer.ensures))
+          (buffers_grown c.args.filling.now.capacity c.loop.invariant.going.grew free walked.grew)
+          refl (omega arith);
+      kept = record {
+        same = record {
+          bindings = then.same.bindings ∙ same.bindings;
+          buffers = then.same.buffers ∙ same.buffers;
+          variables = then.same.variables ∙ same.variables;
+          types = then.same.types ∙ same.types;
+          bindings_long = then.same.bindings_long ∙ same.bindings_long;
+          buffers_long = c.put_buffer.auto.table ∙ then.same.buffers_long ∙ same.buffers_long;
+          variables_long = then.same.variables_long ∙ same.variables_long;
+          types_long = then.same.types_long ∙ same.types_long;
+          capacity = then.same.capacity ∙ same.capacity;
+        };
+        bindings = then.bindings ∙ kept.bindings;
+      };
+    }
 
-pub returns : goal.returns
-returns c =
-    ends c.loop.invariant (omega arith)
+pub returns-clause-walked : goal.returns-clause-walked
+returns-clause-walked c = ends c.loop.invariant.going (omega arith)

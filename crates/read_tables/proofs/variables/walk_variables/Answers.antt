@@ -1,7 +1,6 @@
-use Rattle.text.specs.declared.Span.{Span}
-use Rattle.std.specs.Prelude.{Option, Some}
+use Rattle.std.specs.Prelude.{Option}
 use Rattle.std.proofs.lemmas.Result.{err_from_is_err_and}
-use mathlib.Core.Bool.{Bool, true}
+use Rattle.text.specs.declared.Span.{Span}
 use mathlib.Core.List.{List}
 use Prim.Native.Nat.{ℕ, ◌+◌, ◌<◌}
 use mathlib.Core.Path.{◌≡◌, sym, ap, ◌∙◌}
@@ -9,116 +8,136 @@ use native.Mathlib.Omega.{arith}
 use lib.ListN.{length}
 use Rattle.words.specs.Words.{word_at}
 use Rattle.words.specs.Parts.{inside}
-use Rattle.text.specs.Strings.{span}
 use Rattle.text.specs.Strings.{cstring_at}
 use Rattle.reflection.specs.declared.Text.{Text}
-use Rattle.reflection.specs.declared.refusal.Refusal.TheVariants.{BadName, DefaultPastEnd}
 use Rattle.reflection.specs.declared.CBufferVariable.{CBufferVariable}
-use Rattle.reflection.specs.Texts.{in_chunk}
 use Rattle.tables.specs.Records.{put_record, variable_width, variable_words_in_table}
 use Rattle.read_spec.specs.declared.Counts.{Counts}
 use Rattle.read_spec.specs.Read.{variable_stride, default_at}
-use Rattle.read_types.specs.Walk.{turned_onto}
-use Rattle.read_tables.specs.Variables.{variable_record_in_chunk, ReadyVariables}
+use Rattle.read_types.specs.declared.chunk.Chunk.{Chunk}
+use Rattle.read_types.specs.declared.chunk.Record.{Record}
+use Rattle.read_types.specs.Chunk.{RecordAt}
+use Rattle.read_types.specs.Walked.{HasRoom}
+use Rattle.read_types.proofs.InChunk.{FoundText, not_found, text_found, in_record}
+use Rattle.read_tables.specs.Variables.{variable_record_in_chunk}
 use Rattle.read_tables.proofs.Loop.{ends, stops, goes_on}
 use Rattle.read_tables.proofs.Grown.{variables_grown}
 use Rattle.read_tables.proofs.OneVariable.{variable_full, variable_short, variable_default_outside, variable_named_badly, variable_put}
 use Rattle.read_tables.proofs.OneVariable.{VariableWritten, variable_refused, variable_filled}
 use Rattle.read_tables.proofs.variables.walk_variables.Goals as goal
 
+-- The default that the definition has, at the variable's place.
+default_in : {chunk : Chunk} {r : Record} {at size : ℕ} {default : Option Span} → RecordAt chunk at size r
+    → default ≡ default_at r.chunk.bytes.now (word_at r.chunk.bytes.now (r.at + 20)) (word_at r.chunk.bytes.now (r.at + 8))
+    → default_at chunk.bytes.now (word_at chunk.bytes.now (at + 20)) (word_at chunk.bytes.now (at + 8)) ≡ default
+default_in read is = sym (is ∙ in_record (λ s five wide at. default_at s (word_at s (at + 20)) (word_at s (at + 8))) read)
+
 -- All that is known of the variable once its record was written: it passed its tests, and its type lies at `below`.
-written : {s : List ℕ} {capacity n₀ n : Counts} {variables₀ types₀ path₀ variables variables₁ : List ℕ} {stride name place k dplace dlength below : ℕ}
-    {tested : Bool} {default found : (Option Span)} {text default_text root : Text} {variable : CBufferVariable}
-    → ReadyVariables s capacity n₀ variables₀ types₀ path₀
-    → (sm5 : Bool) (at : ℕ)
-    → length variables ≡ length variables₀
-    → n.variables < capacity.variables
-    → stride ≡ variable_stride sm5 → tested ≡ inside (length s) at stride → tested ≡ true
-    → default ≡ default_at s (word_at s (at + 20)) (word_at s (at + 8)) → default ≡ Some (span dplace dlength)
-    → name ≡ word_at s at → found ≡ cstring_at s name → found ≡ Some (span place k)
-    → text ≡ in_chunk place k → default_text ≡ in_chunk dplace dlength
-    → variable ≡ variable_record_in_chunk s sm5 at text default_text
+written : {chunk : Chunk} {r : Record} {at stride below : ℕ} {capacity n : Counts} {variables variables₁ : List ℕ}
+    {default : Option Span} {name default_text : Text} {variable : CBufferVariable}
+    → HasRoom variable_width capacity.variables n.variables variables → n.variables < capacity.variables
+    → stride ≡ variable_stride chunk.sm5 → RecordAt chunk at stride r
+    → default ≡ default_at r.chunk.bytes.now (word_at r.chunk.bytes.now (r.at + 20)) (word_at r.chunk.bytes.now (r.at + 8)) → FoundText default default_text
+    → FoundText (cstring_at r.chunk.bytes.now (word_at r.chunk.bytes.now r.at)) name
+    → variable ≡ variable_record_in_chunk r.chunk.bytes.now r.chunk.sm5 r.at name default_text
     → variables₁ ≡ put_record variable_width variables n.variables (variable_words_in_table variable)
-    → below ≡ word_at s (at + 16) → root ≡ in_chunk 0 0
-    → VariableWritten s sm5 at capacity n variables variables₁ below root
-written {s} {n = n} {variables = variables} {place = place} {k = k} {dplace = dplace} {dlength = dlength} ready sm5 at long free is_stride is_tested fits
-    is_default default is_name is_found found text default_text variable put below root = record {
+    → below ≡ word_at r.chunk.bytes.now (r.at + 16)
+    → VariableWritten chunk.bytes.now chunk.sm5 at capacity n variables variables₁ below
+written {chunk} {at = at} {capacity = capacity} {n} {variables} {name = name} {default_text} room free is_stride read is_default default found is put below =
+    record {
       free = free;
-      fits = sym (is_tested ∙ ap (inside (length s) at) is_stride) ∙ fits;
-      dplace = dplace;
-      dlength = dlength;
-      default = sym is_default ∙ default;
-      place = place;
-      k = k;
-      found = sym (is_found ∙ ap (cstring_at s) is_name) ∙ found;
-      taken = variable_put ready sm5 at n variables long free text default_text variable put;
-      is_below = below;
-      is_root = root;
+      fits = sym (ap (inside (length chunk.bytes.now) at) is_stride) ∙ read.fits;
+      dplace = default.place;
+      dlength = default.k;
+      default = default_in read is_default ∙ default.some;
+      place = found.place;
+      k = found.k;
+      found = sym (in_record (λ s five wide at. cstring_at s (word_at s at)) read) ∙ found.some;
+      taken = variable_put chunk.bytes.now chunk.sm5 at capacity n variables room free found.is default.is
+          (is ∙ in_record (λ s five wide at. variable_record_in_chunk s five at name default_text) read) put;
+      is_below = below ∙ in_record (λ s five wide at. word_at s (at + 16)) read;
     }
 
-pub returns-then-capacity-n : goal.returns-then-capacity-n
-returns-then-capacity-n c =
-    stops c.loop.invariant (omega arith)
-    (variable_full _ _ _ c.args.capacity c.loop.next _ c.if-capacity-n.true)
+pub returns-then-filling-n-clause-walked : goal.returns-then-filling-n-clause-walked
+returns-then-filling-n-clause-walked c =
+    stops c.loop.invariant.going (omega arith)
+    (variable_full _ _ _ c.args.filling.now.capacity c.loop.filling.counts _ (rw c.loop.invariant.kept.same.capacity at c.if-filling-n.true))
 
-pub returns-then-not-inside : goal.returns-then-not-inside
-returns-then-not-inside c =
-    stops c.loop.invariant (omega arith)
-    (variable_short _ _ _ c.args.capacity c.loop.next _ c.if-capacity-n.false
-    (cc (c.inside.ensures, c.variable_stride-stride.ensures.0, c.if-not-inside.true)))
-
-pub returns-in_err-default : goal.returns-in_err-default
-returns-in_err-default c =
+pub returns-in_err-record-clause-walked : goal.returns-in_err-record-clause-walked
+returns-in_err-record-clause-walked c =
     let p = err_from_is_err_and c.from_residual.result c.from_residual.ensures.1 in
-    let none = c.in_err-default.ensures.ok_part in
-    let bad : p.0 ≡ DefaultPastEnd = grind arith in
-    rw (p.1, bad)
-    (stops c.loop.invariant (omega arith)
-    (variable_default_outside _ _ _ c.args.capacity c.loop.next _ c.if-capacity-n.false
-    (cc (c.inside.ensures, c.variable_stride-stride.ensures.0, c.if-not-inside.false))
-    (sym c.default_of.ensures.0 ∙ none)))
+    rw (p.1, p.2, c.in_err-record.ensures.refusal)
+    (stops c.loop.invariant.going (omega arith)
+    (variable_short _ _ _ c.args.filling.now.capacity c.loop.filling.counts _ (rw c.loop.invariant.kept.same.capacity at c.if-filling-n.false)
+    (cc (c.in_err-record.ensures.outside, c.variable_stride-stride.ensures))))
 
-pub returns-in_err-found : goal.returns-in_err-found
-returns-in_err-found c =
-    let p = err_from_is_err_and c.from_residual-in_err-found.result c.from_residual-in_err-found.ensures.1 in
-    let none = c.in_err-found.ensures.ok_part in
-    let bad : p.0 ≡ BadName = grind arith in
-    rw (p.1, bad)
-    (stops c.loop.invariant (omega arith)
-    (variable_named_badly _ _ _ c.args.capacity c.loop.next _ c.if-capacity-n.false
-    (cc (c.inside.ensures, c.variable_stride-stride.ensures.0, c.if-not-inside.false))
-    _ _ (sym c.default_of.ensures.0 ∙ c.in_ok-default.ensures.ok_part)
-    (cc (c.cstring_at.ensures.0, c.word_at-name.ensures, none))))
+pub returns-in_err-default-clause-walked : goal.returns-in_err-default-clause-walked
+returns-in_err-default-clause-walked c =
+    let p = err_from_is_err_and c.from_residual-in_err-default.result c.from_residual-in_err-default.ensures.1 in
+    let read = c.in_ok-record.ensures in
+    let bad = not_found _ c.in_err-default.ensures in
+    rw (p.1, p.2, bad.refusal)
+    (stops c.loop.invariant.going (omega arith)
+    (variable_default_outside _ _ _ c.args.filling.now.capacity c.loop.filling.counts _ (rw c.loop.invariant.kept.same.capacity at c.if-filling-n.false)
+    (cc (read.fits, c.variable_stride-stride.ensures)) (default_in read c.default_of.ensures.is ∙ bad.none)))
 
-pub returns-in_err-next : goal.returns-in_err-next
-unfolding turned_onto
-returns-in_err-next c =
-    let p = err_from_is_err_and c.from_residual-in_err-next.result c.from_residual-in_err-next.ensures.1 in
+pub returns-in_err-name-clause-walked : goal.returns-in_err-name-clause-walked
+returns-in_err-name-clause-walked c =
+    let p = err_from_is_err_and c.from_residual-in_err-name.result c.from_residual-in_err-name.ensures.1 in
+    let read = c.in_ok-record.ensures in
+    let default = text_found _ _ c.in_ok-default.ensures in
+    let bad = not_found _ c.in_err-name.ensures in
+    rw (p.1, p.2, bad.refusal)
+    (stops c.loop.invariant.going (omega arith)
+    (variable_named_badly _ _ _ c.args.filling.now.capacity c.loop.filling.counts _ (rw c.loop.invariant.kept.same.capacity at c.if-filling-n.false)
+    (cc (read.fits, c.variable_stride-stride.ensures))
+    _ _ (default_in read c.default_of.ensures.is ∙ default.some)
+    (sym (in_record (λ s five wide at. cstring_at s (word_at s at)) read) ∙ bad.none)))
+
+pub returns-in_err-walk_root-clause-walked : goal.returns-in_err-walk_root-clause-walked
+returns-in_err-walk_root-clause-walked c =
+    let p = err_from_is_err_and c.from_residual-in_err-walk_root.result c.from_residual-in_err-walk_root.ensures.1 in
+    let same = c.loop.invariant.kept.same in
     rw (p.1, p.2)
-    (stops c.loop.invariant (omega arith)
+    (stops c.loop.invariant.going (omega arith)
     (variable_refused
-    (written c.requires c.args.sm5 c.loop.at c.loop.invariant.long.0 c.if-capacity-n.false c.variable_stride-stride.ensures.0
-    c.inside.ensures c.if-not-inside.false c.default_of.ensures.0 c.in_ok-default.ensures.ok_part c.word_at-name.ensures c.cstring_at.ensures.0
-    c.in_ok-found.ensures.ok_part c.in_chunk-in-loop.ensures c.in_chunk-in-loop-2.ensures c.variable_record-variable.ensures c.put_variable.ensures
-    c.word_at-below.ensures c.in_chunk.ensures)
-    _ _ _ _ c.in_err-next.ensures))
+    (written (rw same.capacity at c.loop.filling.variables_fit) (rw same.capacity at c.if-filling-n.false) c.variable_stride-stride.ensures
+    c.in_ok-record.ensures c.default_of.ensures.is (text_found _ _ c.in_ok-default.ensures) (text_found _ _ c.in_ok-name.ensures)
+    c.variable_record.ensures c.put_variable.ensures c.word.ensures)
+    _ _ (rw same.capacity at c.in_err-walk_root.ensures.walked)))
 
 pub loop-preserved : goal.loop-preserved
-unfolding turned_onto
 loop-preserved c =
-    let kept = c.walk_type.auto in
-    let long = c.loop.invariant.long in
-    goes_on c.loop.invariant (omega arith)
-    (variable_filled
-    (written c.requires c.args.sm5 c.loop.at c.loop.invariant.long.0 c.if-capacity-n.false c.variable_stride-stride.ensures.0
-    c.inside.ensures c.if-not-inside.false c.default_of.ensures.0 c.in_ok-default.ensures.ok_part c.word_at-name.ensures c.cstring_at.ensures.0
-    c.in_ok-found.ensures.ok_part c.in_chunk-in-loop.ensures c.in_chunk-in-loop-2.ensures c.variable_record-variable.ensures c.put_variable.ensures
-    c.word_at-below.ensures c.in_chunk.ensures)
-    _ _ _ _ c.in_ok-next.ensures)
-    (variables_grown c.args.capacity c.loop.invariant.grew c.if-capacity-n.false c.in_ok-next.ensures.walked.grew)
-    (c.put_variable.auto.table ∙ long.0, (kept.types ∙ long.1.0, kept.path ∙ long.1.1))
-    c.variable_stride-stride.ensures.0 (omega arith)
+    let kept = c.loop.invariant.kept in
+    let same = kept.same in
+    let free = rw same.capacity at c.if-filling-n.false in
+    let walked = rw same.capacity at c.in_ok-walk_root.ensures.walked in
+    let then = c.in_ok-walk_root.ensures.kept in
+    record {
+      going = goes_on c.loop.invariant.going (omega arith)
+          (variable_filled
+          (written (rw same.capacity at c.loop.filling.variables_fit) free c.variable_stride-stride.ensures
+          c.in_ok-record.ensures c.default_of.ensures.is (text_found _ _ c.in_ok-default.ensures) (text_found _ _ c.in_ok-name.ensures)
+          c.variable_record.ensures (then.variables ∙ c.put_variable.ensures) c.word.ensures)
+          _ _ walked)
+          (variables_grown c.args.filling.now.capacity c.loop.invariant.going.grew free walked.grew)
+          c.variable_stride-stride.ensures (omega arith);
+      kept = record {
+        same = record {
+          bindings = then.same.bindings ∙ same.bindings;
+          buffers = then.same.buffers ∙ same.buffers;
+          variables = then.same.variables ∙ same.variables;
+          types = then.same.types ∙ same.types;
+          bindings_long = then.same.bindings_long ∙ same.bindings_long;
+          buffers_long = then.same.buffers_long ∙ same.buffers_long;
+          variables_long = then.same.variables_long ∙ c.put_variable.auto.table ∙ same.variables_long;
+          types_long = then.same.types_long ∙ same.types_long;
+          capacity = then.same.capacity ∙ same.capacity;
+        };
+        bindings = then.bindings ∙ kept.bindings;
+        buffers = then.buffers ∙ kept.buffers;
+      };
+    }
 
-pub returns : goal.returns
-returns c =
-    ends c.loop.invariant (omega arith)
+pub returns-clause-walked : goal.returns-clause-walked
+returns-clause-walked c = ends c.loop.invariant.going (omega arith)

@@ -6,13 +6,13 @@ use Rattle.text_output.specs.Written.{output_of}
 use Rattle.text_output.proofs.Fitting.{refused_answers, finished_answers}
 use Rattle.spelling.proofs.write.answer.Goals as goal
 
-pub returns-in-Ok : goal.returns-in-Ok
-returns-in-Ok c outcome lent same written =
+pub returns-in-Ok-clause-answer : goal.returns-in-Ok-clause-answer
+returns-in-Ok-clause-answer c outcome lent start written =
     let p = rw c.in-Ok.is at written in
-    finished_answers p.1.0 p.1.1 (c.finish.ensures.answer, c.finish.ensures.out)
+    finished_answers p.1.0 (rw start at p.1.1.text) (c.finish.ensures.answer, c.finish.ensures.out)
 
-pub returns-in-Err : goal.returns-in-Err
+pub returns-in-Err-clause-answer : goal.returns-in-Err-clause-answer
 unfolding output_of
-returns-in-Err c outcome lent same written =
-    let why = rw c.in-Err.is at written in
+returns-in-Err-clause-answer c outcome lent start written =
+    let (why, same) = rw c.in-Err.is at written in
     refused_answers why (c.refuse.ensures.answer, c.refuse.ensures.out ∙ ap (λ (n : ℕ). replicate n 0) same)

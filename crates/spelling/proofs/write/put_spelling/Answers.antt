@@ -1,6 +1,7 @@
 -- `put_spelling` meets its contract: the own name, or base, dimensions and suffix in a row.
-use mathlib.Core.Path.{sym, ◌∙◌}
-use Rattle.words.proofs.Splice.{put_then}
+use mathlib.Core.Path.{refl, sym, ◌∙◌}
+use Rattle.words.proofs.Splice.{put_length}
+use Rattle.text_output.proofs.Appended.{appended_then}
 use Rattle.spelling.proofs.WritePieces.{own_named, own_nameless, base_read, base_unread}
 use Rattle.spelling.proofs.WritePieces.{no_base, no_dimensions, base_and_dimensions}
 use Rattle.spelling.proofs.write.put_spelling.Goals as goal
@@ -8,7 +9,7 @@ use Rattle.spelling.proofs.write.put_spelling.Goals as goal
 pub returns-then-is_empty-clause-text : goal.returns-then-is_empty-clause-text
 returns-then-is_empty-clause-text c =
     let a = c.args in
-    own_nameless a.name.now a.t (sym c.by_name.ensures ∙ c.if-by_name.true) (sym c.is_empty.ensures ∙ c.if-is_empty.true)
+    (own_nameless a.name.now a.t (sym c.by_name.ensures ∙ c.if-by_name.true) (sym c.is_empty.ensures ∙ c.if-is_empty.true), refl)
 
 pub returns-then-by_name-clause-text : goal.returns-then-by_name-clause-text
 returns-then-by_name-clause-text c =
@@ -21,20 +22,21 @@ returns-in_err-known-clause-text c =
     let a = c.args in
     let numbers = sym c.by_name.ensures ∙ c.if-by_name.false in
     let none = base_unread a.t.var_type c.try_from.result c.try_from.ensures.0 c.in_err-known.ensures.value in
-    rw c.from_residual.ensures (no_base a.name.now a.t numbers none)
+    rw c.from_residual.ensures (no_base a.name.now a.t numbers none, refl)
 
-pub returns-in_err-core-clause-text : goal.returns-in_err-core-clause-text
-returns-in_err-core-clause-text c =
+pub returns-in_err-put_dimensions-clause-text : goal.returns-in_err-put_dimensions-clause-text
+returns-in_err-put_dimensions-clause-text c =
     let a = c.args in
     let numbers = sym c.by_name.ensures ∙ c.if-by_name.false in
     let base = base_read a.t.var_type c.in_ok-known.known c.try_from.result c.try_from.ensures.0 c.in_ok-known.ensures.value in
-    rw c.from_residual-in_err-core.ensures (no_dimensions a.name.now a.t numbers base c.in_err-core.ensures.text)
+    let (none, same) = c.in_err-put_dimensions.ensures.text in
+    rw c.from_residual-in_err-put_dimensions.ensures (no_dimensions a.name.now a.t numbers base none, same ∙ put_length c.put_bytes-2.ensures.text)
 
 pub returns-clause-text : goal.returns-clause-text
 returns-clause-text c =
     let a = c.args in
     let numbers = sym c.by_name.ensures ∙ c.if-by_name.false in
     let base = base_read a.t.var_type c.in_ok-known.known c.try_from.result c.try_from.ensures.0 c.in_ok-known.ensures.value in
-    let (dims, (is, put)) = c.in_ok-core.ensures.text in
-    let name = rw c.base_name.ensures at c.put_bytes-base.ensures in
-    (_, (base_and_dimensions a.name.now a.t numbers base is, put_then name (put_then put c.put_suffix.ensures.text)))
+    let (dims, (is, put)) = c.in_ok-put_dimensions.ensures.text in
+    let name = rw c.base_name.ensures at c.put_bytes-2.ensures in
+    (_, (base_and_dimensions a.name.now a.t numbers base is, appended_then name (appended_then put c.put_suffix.ensures.text)))

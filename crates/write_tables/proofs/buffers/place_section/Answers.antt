@@ -2,48 +2,44 @@
 use mathlib.Core.Path.{refl}
 use native.Mathlib.Omega.{arith}
 use Rattle.write_tables.proofs.OneSection.{few_variables, near_start, records_short, start_near, variables_ready, section_placed}
+use Rattle.write_tables.proofs.Writers.{moved_same}
 use Rattle.write_tables.proofs.buffers.place_section.Goals as goal
 
-pub put_padding-start-requires : goal.put_padding-start-requires
-put_padding-start-requires c = omega (arith, near_start c.requires c.count_at-count.ensures)
+pub put_padding-requires : goal.put_padding-requires
+put_padding-requires c = omega (arith, near_start c.requires c.count_at-count.ensures)
 
-pub overflow_mul-behind : goal.overflow_mul-behind
-overflow_mul-behind c =
-    omega (arith, records_short c.requires c.count_at-count.ensures c.variable_size.ensures.1)
+pub overflow_mul-w : goal.overflow_mul-w
+overflow_mul-w c = omega (arith, records_short c.requires c.count_at-count.ensures c.args.source.sm5 c.variable_size.ensures)
 
-pub overflow_mul-behind-2 : goal.overflow_mul-behind-2
-overflow_mul-behind-2 c =
-    omega (arith, records_short c.requires c.count_at-count.ensures c.variable_size.ensures.1)
+pub overflow_mul-w-2 : goal.overflow_mul-w-2
+overflow_mul-w-2 c = omega (arith, records_short c.requires c.count_at-count.ensures c.args.source.sm5 c.variable_size.ensures)
 
-pub overflow_add-behind : goal.overflow_add-behind
-overflow_add-behind c =
+pub overflow_add-w : goal.overflow_add-w
+overflow_add-w c =
     let ready = c.requires in
     omega (
       arith,
-      records_short ready c.count_at-count.ensures c.variable_size.ensures.1,
-      start_near ready c.count_at-count.ensures c.put_padding-start.ensures,
+      records_short ready c.count_at-count.ensures c.args.source.sm5 c.variable_size.ensures,
+      start_near ready c.count_at-count.ensures c.put_padding.ensures.text,
     )
 
-pub place_variables-reached-requires : goal.place_variables-reached-requires
-place_variables-reached-requires c =
-    variables_ready c.requires c.count_at-count.ensures c.variable_size.ensures.1 c.put_padding-start.ensures
+pub place_variables-requires : goal.place_variables-requires
+place_variables-requires c = variables_ready c.requires c.count_at-count.ensures c.args.source.sm5 c.variable_size.ensures c.put_padding.ensures.text
 
 pub put_variable_records-requires : goal.put_variable_records-requires
 put_variable_records-requires c =
     let ready = c.requires in
-    omega (
-      arith,
-      c.place_variables-reached.ensures.advance.ready.long,
-      few_variables ready c.count_at-count.ensures,
-      start_near ready c.count_at-count.ensures c.put_padding-start.ensures,
-    )
+    record {
+      long = c.place_variables.ensures.placed.advance.ready.long;
+      few = few_variables ready c.count_at-count.ensures;
+      near = omega (arith, start_near ready c.count_at-count.ensures c.put_padding.ensures.text);
+    }
 
-pub overflow_cast-scratch : goal.overflow_cast-scratch
-overflow_cast-scratch c =
-    omega (arith, start_near c.requires c.count_at-count.ensures c.put_padding-start.ensures)
+pub overflow_cast-w : goal.overflow_cast-w
+overflow_cast-w c = omega (arith, start_near c.requires c.count_at-count.ensures c.put_padding.ensures.text)
 
-pub returns : goal.returns
-returns c =
-    section_placed c.requires c.count_at-count.ensures c.variable_size.ensures.1 c.put_padding-start.ensures
-    c.variable_size.ensures.0 c.buffer_at-fields.ensures refl c.place_variables-reached.ensures
-    c.put_variable_records.ensures
+pub returns-clause-placed : goal.returns-clause-placed
+returns-clause-placed c =
+    let written = c.put_variable_records.ensures in
+    section_placed c.requires c.count_at-count.ensures c.args.source.sm5 c.variable_size.ensures c.put_padding.ensures.text
+    c.buffer_at-fields.ensures refl c.place_variables.ensures.placed written.put written.scratch (moved_same written.same c.place_variables.new.w.out.now.at)

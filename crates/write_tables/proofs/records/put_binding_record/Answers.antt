@@ -1,16 +1,10 @@
--- `put_binding_record` meets its contract: the array that it fills is the binding's row.
-use mathlib.Core.Bool.{true, false}
-use Rattle.write_tables.proofs.RowWords.{put_binding_row}
+-- `put_binding_record` meets its contract: the words that it writes of the array are the binding's row.
+use Rattle.write_tables.proofs.RowWords.{binding_row_is}
+use Rattle.write_tables.proofs.Writers.{words_put}
 use Rattle.write_tables.proofs.records.put_binding_record.Goals as goal
-
-pub returns-then-wide : goal.returns-then-wide
-returns-then-wide c =
-    put_binding_row c.args.bindings.now c.args.scratch.now c.args.binding true
-    c.binding_at-fields.ensures c.if-wide.true
-    c.put_word_bytes.ensures
 
 pub returns : goal.returns
 returns c =
-    put_binding_row c.args.bindings.now c.args.scratch.now c.args.binding false
-    c.binding_at-fields.ensures c.if-wide.false
-    c.put_word_bytes-2.ensures
+    words_put
+    (binding_row_is c.args.bindings.now c.args.w.now.scratch.now c.args.binding c.args.wide c.binding_at-fields.ensures c.binding_size.ensures)
+    c.put_word_bytes.ensures

@@ -4,4 +4,4 @@ use Rattle.write_tables.proofs.Rows.{RowsSoFar}
 use Rattle.write_tables.proofs.records.put_buffer_records.Given as goal
 
 abbrev pub invariant-loop-i : goal.invariant-loop-i
-invariant-loop-i l = RowsSoFar (buffer_row l.buffers l.scratch) 0 l.count l.at l.initial.out l.out l.to l.i
+invariant-loop-i l = RowsSoFar (buffer_row l.buffers) 0 l.count l.initial.w l.w l.i

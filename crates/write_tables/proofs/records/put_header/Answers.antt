@@ -1,17 +1,7 @@
--- `put_header` meets its contract: the array that it fills is the header's row, with the RD11 words or without.
-use mathlib.Core.Bool.{true, false}
-use Rattle.write_spec.specs.Records.{rd11_words}
-use Rattle.write_tables.proofs.RowWords.{put_header_row}
+-- `put_header` meets its contract: the words that it writes of the array are the header's row, with the RD11 words or without.
+use Rattle.write_tables.proofs.RowWords.{header_row_is}
+use Rattle.write_tables.proofs.Writers.{appended_as}
 use Rattle.write_tables.proofs.records.put_header.Goals as goal
 
-pub returns-then-sm5 : goal.returns-then-sm5
-unfolding rd11_words
-returns-then-sm5 c =
-    put_header_row c.args.def c.args.buffers c.args.creator true c.requires c.if-sm5.true
-    c.put_word_bytes.ensures
-
 pub returns : goal.returns
-unfolding rd11_words
-returns c =
-    put_header_row c.args.def c.args.buffers c.args.creator false c.requires c.if-sm5.false
-    c.put_word_bytes-2.ensures
+returns c = appended_as (header_row_is c.args.def c.args.buffers c.args.creator c.is_sm5.ensures c.header_size-size.ensures) c.put_word_bytes.ensures

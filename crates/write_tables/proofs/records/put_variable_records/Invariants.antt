@@ -4,4 +4,4 @@ use Rattle.write_tables.proofs.Rows.{RowsSoFar}
 use Rattle.write_tables.proofs.records.put_variable_records.Given as goal
 
 abbrev pub invariant-loop-i : goal.invariant-loop-i
-invariant-loop-i l = RowsSoFar (variable_row l.sm5 l.variables l.scratch) l.variable l.count l.at l.initial.out l.out l.to l.i
+invariant-loop-i l = RowsSoFar (variable_row l.sm5 l.variables) l.variable l.count l.initial.w l.w l.i

@@ -1,36 +1,32 @@
 -- `place_variable` meets its contract: its name, its type and its default were placed in turn, and the offsets stored.
-use Rattle.write_tables.proofs.OneVariable.{name_room, root_room, type_ready, default_room_lem, variable_placed}
+use Rattle.write_tables.proofs.OneVariable.{name_room, type_ready, default_room_lem, type_placed_after, variable_placed}
+use Rattle.write_tables.proofs.Writers.{cursor_moved}
 use Rattle.write_tables.proofs.variables.place_variable.Goals as goal
 
-pub place_inner_name-name-requires : goal.place_inner_name-name-requires
-place_inner_name-name-requires c =
-    let room = name_room c.requires in
-    record {
-      sources_fit = c.requires.sources;
-      pools_ready = c.requires.pools;
-      scratch_bound = room.0;
-      at_le_farthest_offset = room.1;
-    }
+pub place_inner_name-name-requires-clause-scratch_bound : goal.place_inner_name-name-requires-clause-scratch_bound
+place_inner_name-name-requires-clause-scratch_bound c = (name_room c.requires).0
 
-pub place_root_type-kind-requires : goal.place_root_type-kind-requires
-place_root_type-kind-requires c =
-    record {
-      type_ready = type_ready c.requires c.place_inner_name-name.ensures;
-      root_types_bound = root_room c.requires;
-    }
+pub place_inner_name-name-requires-clause-at_le_farthest_offset : goal.place_inner_name-name-requires-clause-at_le_farthest_offset
+place_inner_name-name-requires-clause-at_le_farthest_offset c = (name_room c.requires).1
 
-pub place_default-default-requires : goal.place_default-default-requires
-place_default-default-requires c =
-    let placed = c.place_root_type-kind.ensures in
-    let room = default_room_lem c.requires c.place_inner_name-name.ensures placed in
-    record {
-      sources_fit = c.requires.sources;
-      pools_ready = placed.advanced.ready;
-      scratch_bound = room.0;
-      at_le_farthest_offset = room.1;
-    }
+pub place_root_type-kind-requires-clause-type_ready : goal.place_root_type-kind-requires-clause-type_ready
+place_root_type-kind-requires-clause-type_ready c =
+    let named = c.place_inner_name-name.ensures in
+    type_ready c.requires named.placed c.args.source.short (cursor_moved named.same)
 
-pub returns : goal.returns
-returns c =
-    variable_placed c.requires c.args.variables.now c.variable_at-fields.ensures c.place_inner_name-name.ensures
-    c.place_root_type-kind.ensures c.place_default-default.ensures c.overwrite.ensures
+pub place_default-default-requires-clause-scratch_bound : goal.place_default-default-requires-clause-scratch_bound
+place_default-default-requires-clause-scratch_bound c =
+    let named = c.place_inner_name-name.ensures in
+    (default_room_lem c.requires named.placed (type_placed_after named.same c.place_root_type-kind.ensures.placed)).0
+
+pub place_default-default-requires-clause-at_le_farthest_offset : goal.place_default-default-requires-clause-at_le_farthest_offset
+place_default-default-requires-clause-at_le_farthest_offset c =
+    let named = c.place_inner_name-name.ensures in
+    (default_room_lem c.requires named.placed (type_placed_after named.same c.place_root_type-kind.ensures.placed)).1
+
+pub returns-clause-placed : goal.returns-clause-placed
+returns-clause-placed c =
+    let named = c.place_inner_name-name.ensures in
+    let defaulted = c.place_default-default.ensures in
+    variable_placed c.requires c.args.variables.now c.variable_at-fields.ensures named.placed
+    (type_placed_after named.same c.place_root_type-kind.ensures.placed) defaulted.placed c.overwrite.ensures (cursor_moved defaulted.same)

@@ -8,17 +8,17 @@ pub returns-then-type_at-eq0 : goal.returns-then-type_at-eq0
 returns-then-type_at-eq0 c =
     let args = c.args in
     c.find_type.ensures
-    ∙ sym (shared_looks args.chunk.now args.edits.now args.types.now args.levels args.node args.scratch.now args.start args.base
-    args.count c.type_at.ensures args.share c.if-share.true c.if-type_at-eq0.true)
+    ∙ sym (shared_looks args.texts.chunk.now args.texts.edits.now args.x.types.now args.levels args.x.node args.list.scratch.now args.list.start
+    args.list.base args.list.count c.type_at.ensures args.share c.if-share.true c.if-type_at-eq0.true)
 
 pub returns : goal.returns
 returns c =
     let args = c.args in
     elim c.else-share.branch [
       | else-share-via-then-share+else-type_at-eq0 w ↦
-          sym (array_fresh args.chunk.now args.edits.now args.types.now args.levels args.node args.scratch.now args.start args.base
-          args.count w.type_at.ensures args.share w.if-type_at-eq0.false)
+          sym (array_fresh args.texts.chunk.now args.texts.edits.now args.x.types.now args.levels args.x.node args.list.scratch.now args.list.start
+          args.list.base args.list.count w.type_at.ensures args.share w.if-type_at-eq0.false)
       | else-share-via-else-share w ↦
-          sym (unshared_fresh args.chunk.now args.edits.now args.types.now args.levels args.node args.scratch.now args.start args.base
-          args.count args.share w.if-share.false)
+          sym (unshared_fresh args.texts.chunk.now args.texts.edits.now args.x.types.now args.levels args.x.node args.list.scratch.now args.list.start
+          args.list.base args.list.count args.share w.if-share.false)
     ]

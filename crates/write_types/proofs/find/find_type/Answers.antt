@@ -6,19 +6,19 @@ pub returns-then-same_type : goal.returns-then-same_type
 returns-then-same_type c =
     let args = c.args in
     sym (c.loop-i.invariant
-    ∙ newest_found args.chunk.now args.edits.now args.types.now args.levels args.node args.scratch.now args.start args.base c.loop-i.i
-    c.loop-i-test.true (sym c.same_type.ensures ∙ c.if-same_type.true))
+    ∙ newest_found args.texts.chunk.now args.texts.edits.now args.x.types.now args.levels args.x.node args.list.scratch.now args.list.start args.list.base
+    c.loop-i.i c.loop-i-test.true (sym c.same_type.ensures ∙ c.if-same_type.true))
 
 pub loop-i-preserved : goal.loop-i-preserved
 loop-i-preserved c =
     let args = c.args in
     c.loop-i.invariant
-    ∙ newest_other args.chunk.now args.edits.now args.types.now args.levels args.node args.scratch.now args.start args.base c.loop-i.i
-    c.loop-i-test.true (sym c.same_type.ensures ∙ c.if-same_type.false)
+    ∙ newest_other args.texts.chunk.now args.texts.edits.now args.x.types.now args.levels args.x.node args.list.scratch.now args.list.start args.list.base
+    c.loop-i.i c.loop-i-test.true (sym c.same_type.ensures ∙ c.if-same_type.false)
 
 pub returns : goal.returns
 returns c =
     let args = c.args in
     sym (c.loop-i.invariant
-    ∙ none_left args.chunk.now args.edits.now args.types.now args.levels args.node args.scratch.now args.start args.base c.loop-i.i
-    c.loop-i-test.false)
+    ∙ none_left args.texts.chunk.now args.texts.edits.now args.x.types.now args.levels args.x.node args.list.scratch.now args.list.start args.list.base
+    c.loop-i.i c.loop-i-test.false)

@@ -5,5 +5,5 @@ use Rattle.write_types.proofs.find.find_type.Given as goal
 
 abbrev pub invariant-loop-i : goal.invariant-loop-i
 invariant-loop-i l =
-    type_offset l.chunk l.edits l.types l.levels l.node l.scratch l.start l.base l.count
-    ≡ type_offset l.chunk l.edits l.types l.levels l.node l.scratch l.start l.base l.i
+    type_offset l.texts.chunk.now l.texts.edits.now l.x.types.now l.levels l.x.node l.list.scratch.now l.list.start l.list.base l.list.count
+    ≡ type_offset l.texts.chunk.now l.texts.edits.now l.x.types.now l.levels l.x.node l.list.scratch.now l.list.start l.list.base l.i

@@ -7,12 +7,12 @@ use Rattle.write_texts.specs.Scratch.{member_width}
 use Rattle.write_types.proofs.Putting.{padding_near, type_put}
 use Rattle.write_types.proofs.put.put_type.Goals as goal
 
-pub put_descriptor-end-requires : goal.put_descriptor-end-requires
-put_descriptor-end-requires c =
+pub put_descriptor-requires : goal.put_descriptor-requires
+put_descriptor-requires c =
     omega (
       arith,
-      padding_near c.put_padding-start.ensures,
-      c.put_records-members.ensures.near,
+      padding_near c.put_padding.ensures.text,
+      c.put_records-members.ensures.put.near,
       c.requires,
     )
 
@@ -20,14 +20,14 @@ pub overflow_cast-result : goal.overflow_cast-result
 overflow_cast-result c =
     omega (
       arith,
-      padding_near c.put_padding-start.ensures,
-      c.put_records-members.ensures.near,
+      padding_near c.put_padding.ensures.text,
+      c.put_records-members.ensures.put.near,
       c.requires,
     )
 
-pub returns : goal.returns
-returns c =
+pub returns-clause-put : goal.returns-clause-put
+returns-clause-put c =
     let args = c.args in
     type_put args.sm5 (node_from_table args.node).numbers args.name (length args.records.now / member_width) args.records.now
-    (λ count e. omega (arith, e)) c.put_records-members.ensures c.put_padding-start.ensures
-    c.put_descriptor-end.ensures
+    (λ count e. omega (arith, e)) c.put_records-members.ensures.put c.put_padding.ensures.text
+    c.put_descriptor.ensures.text

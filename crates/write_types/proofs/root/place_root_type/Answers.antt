@@ -1,34 +1,28 @@
--- `place_root_type` meets its contract: past the limit it does nothing; else the type was found, or written and then pushed where it may be shared.
+-- `place_root_type` meets its contract: the type's offset is known, or it was written and then pushed where it may be shared.
+use mathlib.Core.Path.{refl}
 use native.Mathlib.Omega.{arith}
 use Rattle.write_types.proofs.Ready.{node_early}
-use Rattle.write_types.proofs.RootType.{root_past, root_found, root_shared, root_unshared}
+use Rattle.write_types.proofs.RootType.{root_known, root_new, root_shared, root_unshared}
 use Rattle.write_types.proofs.root.place_root_type.Goals as goal
 
-pub skip_type-node-requires : goal.skip_type-node-requires
-skip_type-node-requires c = omega (arith, node_early c.requires.type_ready)
+pub invariant_of-x : goal.invariant_of-x
+invariant_of-x c = omega (arith, node_early c.requires.type_ready)
 
-pub returns-then-cursor-gt-CHUNK_LIMIT : goal.returns-then-cursor-gt-CHUNK_LIMIT
-returns-then-cursor-gt-CHUNK_LIMIT c =
-    root_past c.requires.type_ready c.if-cursor-gt-CHUNK_LIMIT.true c.skip_type-node.ensures
+pub returns-in-Some-clause-placed : goal.returns-in-Some-clause-placed
+returns-in-Some-clause-placed c =
+    root_known c.requires.type_ready c.args.share c.known_offset.ensures c.in-Some.is c.skip_type-w.ensures
 
-pub find_shared-requires : goal.find_shared-requires
-find_shared-requires c =
-    (omega (arith, c.requires.root_types_bound, c.requires.type_ready.ready.long), omega (arith, node_early c.requires.type_ready))
+pub write_type-offset-requires : goal.write_type-offset-requires
+write_type-offset-requires c = c.requires.type_ready
 
-pub skip_type-node-requires-in-Some : goal.skip_type-node-requires-in-Some
-skip_type-node-requires-in-Some c = omega (arith, node_early c.requires.type_ready)
+pub returns-then-share-clause-placed : goal.returns-then-share-clause-placed
+returns-then-share-clause-placed c =
+    let start = c.requires.type_ready in
+    root_shared start c.args.share _ refl c.requires.root_types_bound (root_new start c.args.share c.known_offset.ensures c.in_default.is)
+    c.write_type-offset.ensures.placed c.overwrite.ensures c.if-share.true
 
-pub returns : goal.returns
-returns c =
-    root_shared c.requires.type_ready c.args.share c.find_shared.result c.find_shared.ensures c.requires.root_types_bound
-    c.in_default.is c.write_type-placed.ensures c.overwrite.ensures c.if-not-share.false
-
-pub returns-in-Some : goal.returns-in-Some
-returns-in-Some c =
-    root_found c.requires.type_ready c.args.share c.find_shared.result c.find_shared.ensures c.in-Some.is
-    c.skip_type-node-in-Some.ensures
-
-pub returns-then-not-share : goal.returns-then-not-share
-returns-then-not-share c =
-    root_unshared c.requires.type_ready c.args.share c.find_shared.result c.find_shared.ensures c.requires.root_types_bound
-    c.in_default.is c.write_type-placed.ensures c.if-not-share.true
+pub returns-else-share-clause-placed : goal.returns-else-share-clause-placed
+returns-else-share-clause-placed c =
+    let start = c.requires.type_ready in
+    root_unshared start c.args.share _ refl c.requires.root_types_bound (root_new start c.args.share c.known_offset.ensures c.in_default.is)
+    c.write_type-offset.ensures.placed c.if-share.false

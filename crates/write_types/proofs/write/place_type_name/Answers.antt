@@ -7,13 +7,13 @@ use lib.ListN.{length}
 use Rattle.write_types.proofs.Writing.{name_empty, name_placed}
 use Rattle.write_types.proofs.write.place_type_name.Goals as goal
 
-pub returns-then-is_empty : goal.returns-then-is_empty
-returns-then-is_empty c =
+pub returns-then-is_empty-clause-placed : goal.returns-then-is_empty-clause-placed
+returns-then-is_empty-clause-placed c =
     let none = eqb-true (length c.name_part-bytes.result.now) 0 (sym c.is_empty.ensures ∙ c.if-is_empty.true) in
     name_empty c.args.name c.requires.pools_ready (sym (ap (λ (l : List ℕ). length l) c.name_part-bytes.ensures) ∙ none)
 
-pub returns : goal.returns
-returns c =
+pub returns-clause-placed : goal.returns-clause-placed
+returns-clause-placed c =
     let some = eqb-false (length c.name_part-bytes.result.now) 0 (sym c.is_empty.ensures ∙ c.if-is_empty.false) in
     name_placed c.args.name (λ e. some (ap (λ (l : List ℕ). length l) c.name_part-bytes.ensures ∙ e))
-    c.place_inner_name.ensures
+    c.place_inner_name.ensures.placed

@@ -1,0 +1,24 @@
+// The tables, while they are filled.
+ghost use Rattle.std.specs.Prelude.{◌≡◌, length};
+ghost use Rattle.reflection.specs.Limits.{binding_width, buffer_width, variable_width, type_width, type_levels};
+ghost use Rattle.read_types.specs.Walked.{HasRoom};
+
+use read_spec::Counts;
+use reflection::TYPE_LEVELS;
+
+// The four tables with how many records each has and can take, and the type descriptors on the way down to the one that is walked: their offsets, root first.
+#[derive(Drop)]
+pub struct Filling<'a> {
+    pub bindings: &'a mut [u32],
+    pub buffers: &'a mut [u32],
+    pub variables: &'a mut [u32],
+    pub types: &'a mut [u32],
+    pub capacity: Counts,
+    pub counts: Counts,
+    pub path: [u32; TYPE_LEVELS],
+    pub ghost path_long: { length path ≡ type_levels },
+    pub ghost bindings_fit: { HasRoom binding_width capacity.bindings counts.bindings bindings.now },
+    pub ghost buffers_fit: { HasRoom buffer_width capacity.buffers counts.buffers buffers.now },
+    pub ghost variables_fit: { HasRoom variable_width capacity.variables counts.variables variables.now },
+    pub ghost types_fit: { HasRoom type_width capacity.types counts.types types.now },
+}

@@ -1,0 +1,67 @@
+// Four tables of their own, each with document 01's whole room.
+#![tactic(auto)]
+
+ghost use Rattle.std.specs.Prelude.{◌≡◌, replicate};
+ghost use Rattle.reflection.specs.Limits.{binding_table, buffer_table, variable_table, type_table};
+ghost use Rattle.read.specs.Parsed.{read_into, ParsedInto};
+
+use reflection::{BINDING_TABLE, BUFFER_TABLE, Refusal, ResourceDef, TYPE_TABLE, VARIABLE_TABLE};
+use tables::{Reflection, Tables};
+
+#[derive(Drop)]
+pub struct WholeTables {
+    pub bindings: [u32; BINDING_TABLE],
+    pub buffers: [u32; BUFFER_TABLE],
+    pub variables: [u32; VARIABLE_TABLE],
+    pub types: [u32; TYPE_TABLE],
+}
+
+impl WholeTables {
+    // Zeros in all four.
+    pub fn new() -> WholeTables
+        ensures bindings { result.bindings ≡ replicate binding_table 0 }
+        ensures buffers { result.buffers ≡ replicate buffer_table 0 }
+        ensures variables { result.variables ≡ replicate variable_table 0 }
+        ensures types { result.types ≡ replicate type_table 0 }
+    {
+        WholeTables {
+            bindings: [0; BINDING_TABLE],
+            buffers: [0; BUFFER_TABLE],
+            variables: [0; VARIABLE_TABLE],
+            types: [0; TYPE_TABLE],
+        }
+    }
+
+    // `read::parse_rdef` into them.
+    pub fn read(&mut self, chunk: &[u8]) -> Result<ResourceDef, Refusal>
+        ensures { ParsedInto
+            (read_into chunk.now self.old.bindings self.old.buffers self.old.variables self.old.types)
+            self.old.bindings self.old.buffers self.old.variables self.old.types
+            self.new.bindings self.new.buffers self.new.variables self.new.types result }
+    {
+        let mut tables = Tables {
+            bindings: &mut self.bindings,
+            buffers: &mut self.buffers,
+            variables: &mut self.variables,
+            types: &mut self.types,
+        };
+        read::parse_rdef(chunk, &mut tables)
+    }
+
+    // The reflection that `def` and the tables hold.
+    pub fn reflection(&self, def: ResourceDef) -> Reflection<'_>
+        ensures def { result.def ≡ def }
+        ensures bindings { result.bindings.now ≡ self.now.bindings }
+        ensures buffers { result.buffers.now ≡ self.now.buffers }
+        ensures variables { result.variables.now ≡ self.now.variables }
+        ensures types { result.types.now ≡ self.now.types }
+    {
+        Reflection {
+            def,
+            bindings: &self.bindings,
+            buffers: &self.buffers,
+            variables: &self.variables,
+            types: &self.types,
+        }
+    }
+}
