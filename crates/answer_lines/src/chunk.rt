@@ -19,11 +19,8 @@ pub trait Lines {
 // Prints the lines of the chunk, or why it was refused. Nothing is edited: the text of edits is empty.
 fn print<L: Lines, W: Write>(answers: &mut Answers<W>, chunk: &[u8]) -> io::Result<()> {
     let mut tables = WholeTables::new();
-    match tables.read(chunk) {
-        Ok(def) => {
-            let texts = Texts { chunk, edits: &[] };
-            L::put(answers, texts, tables.reflection(def))?
-        }
+    match tables.read_reflection(chunk) {
+        Ok(r) => L::put(answers, Texts { chunk, edits: &[] }, r)?,
         Err(refusal) => answers.put_refused(refusal)?,
     }
     stdout::flush(&mut answers.out)

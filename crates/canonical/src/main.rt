@@ -11,9 +11,9 @@ use whole_tables::WholeTables;
 fn canonical(chunk: &[u8], form: &mut [u8; CHUNK_LIMIT]) -> Result<usize, Refusal> {
     let mut tables = WholeTables::new();
     let mut scratch = [0u32; write_spec::SCRATCH_WORDS];
-    let def = tables.read(chunk)?;
+    let r = tables.read_reflection(chunk)?;
     let texts = Texts { chunk, edits: &[] };
-    write::write_rdef_canonical(texts, tables.reflection(def), &mut scratch, form)
+    write::write_rdef_canonical(texts, r, &mut scratch, form)
 }
 
 // Prints the form, or the line of the refusal.

@@ -8,18 +8,18 @@ use crate::unknown::UnknownCode;
 
 #[derive(Clone, Copy, Debug, PartialEq, Eq, Hash)]
 pub enum ResourceDimension {
-    Unknown,
-    Buffer,
-    Texture1D,
-    Texture1DArray,
-    Texture2D,
-    Texture2DArray,
-    Texture2DMS,
-    Texture2DMSArray,
-    Texture3D,
-    TextureCube,
-    TextureCubeArray,
-    BufferEx,
+    Unknown = 0,
+    Buffer = 1,
+    Texture1D = 2,
+    Texture1DArray = 3,
+    Texture2D = 4,
+    Texture2DArray = 5,
+    Texture2DMS = 6,
+    Texture2DMSArray = 7,
+    Texture3D = 8,
+    TextureCube = 9,
+    TextureCubeArray = 10,
+    BufferEx = 11,
 }
 
 impl TryFrom<u32> for ResourceDimension {
@@ -51,19 +51,6 @@ impl From<ResourceDimension> for u32 {
     ghost from_gives = { λ x n. n ≡ (dimension_row x).1 };
 
     fn from(x: ResourceDimension) -> u32 {
-        match x {
-            ResourceDimension::Unknown => 0,
-            ResourceDimension::Buffer => 1,
-            ResourceDimension::Texture1D => 2,
-            ResourceDimension::Texture1DArray => 3,
-            ResourceDimension::Texture2D => 4,
-            ResourceDimension::Texture2DArray => 5,
-            ResourceDimension::Texture2DMS => 6,
-            ResourceDimension::Texture2DMSArray => 7,
-            ResourceDimension::Texture3D => 8,
-            ResourceDimension::TextureCube => 9,
-            ResourceDimension::TextureCubeArray => 10,
-            ResourceDimension::BufferEx => 11,
-        }
+        x as u32
     }
 }

@@ -8,20 +8,20 @@ use crate::unknown::UnknownCode;
 
 #[derive(Clone, Copy, Debug, PartialEq, Eq, Hash)]
 pub enum ResourceInputType {
-    CBuffer,
-    TBuffer,
-    Texture,
-    Sampler,
-    UavRwTyped,
-    Structured,
-    UavRwStructured,
-    ByteAddress,
-    UavRwByteAddress,
-    UavAppendStructured,
-    UavConsumeStructured,
-    UavRwStructuredWithCounter,
-    RtAccelerationStructure,
-    UavFeedbackTexture,
+    CBuffer = 0,
+    TBuffer = 1,
+    Texture = 2,
+    Sampler = 3,
+    UavRwTyped = 4,
+    Structured = 5,
+    UavRwStructured = 6,
+    ByteAddress = 7,
+    UavRwByteAddress = 8,
+    UavAppendStructured = 9,
+    UavConsumeStructured = 10,
+    UavRwStructuredWithCounter = 11,
+    RtAccelerationStructure = 12,
+    UavFeedbackTexture = 13,
 }
 
 impl TryFrom<u32> for ResourceInputType {
@@ -55,21 +55,6 @@ impl From<ResourceInputType> for u32 {
     ghost from_gives = { λ x n. n ≡ (input_type_row x).1 };
 
     fn from(x: ResourceInputType) -> u32 {
-        match x {
-            ResourceInputType::CBuffer => 0,
-            ResourceInputType::TBuffer => 1,
-            ResourceInputType::Texture => 2,
-            ResourceInputType::Sampler => 3,
-            ResourceInputType::UavRwTyped => 4,
-            ResourceInputType::Structured => 5,
-            ResourceInputType::UavRwStructured => 6,
-            ResourceInputType::ByteAddress => 7,
-            ResourceInputType::UavRwByteAddress => 8,
-            ResourceInputType::UavAppendStructured => 9,
-            ResourceInputType::UavConsumeStructured => 10,
-            ResourceInputType::UavRwStructuredWithCounter => 11,
-            ResourceInputType::RtAccelerationStructure => 12,
-            ResourceInputType::UavFeedbackTexture => 13,
-        }
+        x as u32
     }
 }

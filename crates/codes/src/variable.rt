@@ -8,24 +8,24 @@ use crate::unknown::UnknownCode;
 
 #[derive(Clone, Copy, Debug, PartialEq, Eq, Hash)]
 pub enum VariableClass {
-    Scalar,
-    Vector,
-    MatrixRows,
-    MatrixColumns,
-    Object,
-    Struct,
-    InterfaceClass,
-    InterfacePointer,
+    Scalar = 0,
+    Vector = 1,
+    MatrixRows = 2,
+    MatrixColumns = 3,
+    Object = 4,
+    Struct = 5,
+    InterfaceClass = 6,
+    InterfacePointer = 7,
 }
 
 // The variable types that HLSL spells by a word: bool, int, float, uint, double.
 #[derive(Clone, Copy, Debug, PartialEq, Eq, Hash)]
 pub enum BaseType {
-    Bool,
-    Int,
-    Float,
-    Uint,
-    Double,
+    Bool = 1,
+    Int = 2,
+    Float = 3,
+    Uint = 19,
+    Double = 39,
 }
 
 impl TryFrom<u32> for VariableClass {
@@ -53,16 +53,7 @@ impl From<VariableClass> for u32 {
     ghost from_gives = { λ x n. n ≡ (class_row x).1 };
 
     fn from(x: VariableClass) -> u32 {
-        match x {
-            VariableClass::Scalar => 0,
-            VariableClass::Vector => 1,
-            VariableClass::MatrixRows => 2,
-            VariableClass::MatrixColumns => 3,
-            VariableClass::Object => 4,
-            VariableClass::Struct => 5,
-            VariableClass::InterfaceClass => 6,
-            VariableClass::InterfacePointer => 7,
-        }
+        x as u32
     }
 }
 
@@ -88,12 +79,6 @@ impl From<BaseType> for u32 {
     ghost from_gives = { λ x n. n ≡ (base_type_row x).1 };
 
     fn from(x: BaseType) -> u32 {
-        match x {
-            BaseType::Bool => 1,
-            BaseType::Int => 2,
-            BaseType::Float => 3,
-            BaseType::Uint => 19,
-            BaseType::Double => 39,
-        }
+        x as u32
     }
 }

@@ -1,7 +1,6 @@
 -- Headers compared number by number, as the code's tests follow it: the first that differs decides, and where all agree the rest does.
-use mathlib.Core.Path.{◌≡◌, sym, ap, ◌∙◌}
-use mathlib.Core.Bool.{Bool, true, false}
-use mathlib.Core.List.{[], ◌∷◌}
+use mathlib.Core.Path.{◌≡◌, refl, sym, ap, ◌∙◌}
+use mathlib.Core.Bool.{Bool, true, false, ◌&&◌}
 use Prim.Native.Nat.{ℕ}
 use lib.Dec.{eqb}
 use borrow.Author.Tests.{eq-eqb}
@@ -22,6 +21,10 @@ module _ (x y : Header) where
   pub other_flags : (x.compile_flags ≡ y.compile_flags → ⊥) → same_bytes (header_numbers x) (header_numbers y) ≡ false
   unfolding header_numbers
   other_flags = other_byte (header_numbers x) (header_numbers y) 1
+
+and-true : (b : Bool) → (b && true) ≡ b
+and-true true = refl
+and-true false = refl
 
 -- Only major 5 has RD11 words.
 module _ (x y : Header) (version : x.target_version ≡ y.target_version) (flags : x.compile_flags ≡ y.compile_flags) where
@@ -45,9 +48,9 @@ module _ (x y : Header) (version : x.target_version ≡ y.target_version) (flags
 
   pub by_rd11 : is_sm5 (rd11_from_header x) ≡ true
       → same_bytes (header_numbers x) (header_numbers y)
-      ≡ same_bytes (x.rd11.identifier ∷ x.rd11.resource_binding_stride ∷ x.rd11.interface_slot_count ∷ [])
-      (y.rd11.identifier ∷ y.rd11.resource_binding_stride ∷ y.rd11.interface_slot_count ∷ [])
-  unfolding rd11_numbers
-  by_rd11 five = by_major true five
+      ≡ (eqb x.rd11.identifier y.rd11.identifier && (eqb x.rd11.resource_binding_stride y.rd11.resource_binding_stride
+      && eqb x.rd11.interface_slot_count y.rd11.interface_slot_count))
+  unfolding same_bytes rd11_numbers
+  by_rd11 five = by_major true five ∙ rw (and-true (eqb x.rd11.interface_slot_count y.rd11.interface_slot_count))
 
 pub ruleset header_tests = (other_version, other_flags, equal_without_rd11, by_rd11)

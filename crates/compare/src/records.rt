@@ -4,7 +4,7 @@ ghost use Rattle.text.specs.Same.{same_bytes};
 ghost use Rattle.tables.specs.Nodes.{type_levels};
 ghost use Rattle.tables.specs.Decode.{binding_from_table, variable_from_table};
 ghost use Rattle.write_spec.specs.Same.{same_binding, same_variable};
-ghost use Rattle.compare_types.specs.Same.{same_name};
+ghost use Rattle.compare_types.specs.Same.{same_in};
 ghost use Rattle.tables.specs.Trees.{type_tree};
 ghost use Rattle.compare.specs.Fields.{same_fields, header_numbers};
 
@@ -14,7 +14,7 @@ use reflection::{CBufferDef, CBufferVariable, ResourceBinding, ResourceDef, TYPE
 // Whether two bindings are equal. No derive says it: names are equal by their bytes, wherever they lie.
 #[tactic(auto, unfolding(write_spec::specs::Same::same_binding, tables::specs::Decode::binding_from_table, text::specs::Same::same_bytes))]
 pub fn same_binding(texts: Texts<'_>, x: ResourceBinding, y: ResourceBinding) -> bool
-    ensures { result ≡ same_binding (same_name texts.entry.chunk.now texts.entry.edits.now) (same_name texts.entry.chunk.now texts.entry.edits.now)
+    ensures { result ≡ same_binding (same_in texts.entry) (same_in texts.entry)
         (binding_from_table x) (binding_from_table y) }
 {
     compare_types::same_name(texts, x.name, y.name)
@@ -24,7 +24,7 @@ pub fn same_binding(texts: Texts<'_>, x: ResourceBinding, y: ResourceBinding) ->
         && x.num_samples == y.num_samples
         && x.bind_point == y.bind_point
         && x.bind_count == y.bind_count
-        && x.flags.0 == y.flags.0
+        && x.flags == y.flags
         && x.space == y.space
         && x.id == y.id
 }
@@ -38,14 +38,14 @@ pub fn same_variable(
     y: CBufferVariable,
     y_type: TypeNode<'_>,
 ) -> bool
-    ensures { result ≡ same_variable (same_name texts.entry.chunk.now texts.entry.edits.now) (same_name texts.entry.chunk.now texts.entry.edits.now)
+    ensures { result ≡ same_variable (same_in texts.entry) (same_in texts.entry)
         (variable_from_table x (type_tree x_type.entry.types.now type_levels x_type.entry.node))
         (variable_from_table y (type_tree y_type.entry.types.now type_levels y_type.entry.node)) }
 {
     compare_types::same_name(texts, x.name, y.name)
         && x.offset == y.offset
         && x.size == y.size
-        && x.flags.0 == y.flags.0
+        && x.flags == y.flags
         && x.texture_start == y.texture_start
         && x.texture_size == y.texture_size
         && x.sampler_start == y.sampler_start
@@ -57,7 +57,7 @@ pub fn same_variable(
 // Whether two buffers are equal but for their variables. No derive says it, as above.
 #[tactic(auto, unfolding(crate::specs::Fields::same_fields, text::specs::Same::same_bytes))]
 pub fn same_fields(texts: Texts<'_>, x: CBufferDef, y: CBufferDef) -> bool
-    ensures { result ≡ same_fields (same_name texts.entry.chunk.now texts.entry.edits.now) x y }
+    ensures { result ≡ same_fields (same_in texts.entry) x y }
 {
     compare_types::same_name(texts, x.name, y.name)
         && x.size == y.size
@@ -73,8 +73,5 @@ pub fn same_numbers(x: ResourceDef, y: ResourceDef) -> bool
 {
     x.target_version == y.target_version
         && x.compile_flags == y.compile_flags
-        && (!reflection::is_sm5(x)
-            || (x.rd11.identifier == y.rd11.identifier
-                && x.rd11.resource_binding_stride == y.rd11.resource_binding_stride
-                && x.rd11.interface_slot_count == y.rd11.interface_slot_count))
+        && (!reflection::is_sm5(x) || x.rd11 == y.rd11)
 }

@@ -3,7 +3,7 @@ ghost use Rattle.std.specs.Prelude.{◌≡◌, ◌+◌, ◌≤◌};
 ghost use Rattle.tables.specs.Decode.{records_from};
 ghost use Rattle.reflection.specs.Limits.{variable_room, type_room};
 ghost use Rattle.write_spec.specs.Same.{same_list, same_binding, same_buffer, same_def};
-ghost use Rattle.compare_types.specs.Same.{same_name};
+ghost use Rattle.compare_types.specs.Same.{same_in};
 ghost use Rattle.tables.specs.TableReflection.{root_at, first_variable, buffer_in_table, reflection_in_tables, Sized};
 ghost use Rattle.compare.specs.Fields.{binding_in_table};
 ghost use Rattle.compare.specs.Compared.{VariablesCompared};
@@ -15,7 +15,7 @@ use tables::Reflection;
 
 // Whether the first bindings of two tables are equal.
 fn same_bindings(texts: Texts<'_>, bindings: &[u32], others: &[u32], count: usize) -> bool
-    ensures { result ≡ same_list (same_binding (same_name texts.entry.chunk.now texts.entry.edits.now) (same_name texts.entry.chunk.now texts.entry.edits.now))
+    ensures { result ≡ same_list (same_binding (same_in texts.entry) (same_in texts.entry))
         (records_from (binding_in_table bindings.now) 0 count) (records_from (binding_in_table others.now) 0 count) }
 {
     (0..count).all(|i| {
@@ -26,7 +26,7 @@ fn same_bindings(texts: Texts<'_>, bindings: &[u32], others: &[u32], count: usiz
 }
 
 // A variable of two reflections, and the nodes at which its type begins in the one and in the other.
-#[derive(Clone, Copy)]
+#[derive(Clone, Copy, Default)]
 struct Place {
     pub variable: usize,
     pub root: usize,
@@ -45,7 +45,7 @@ fn same_variables(
     requires root_value { (from.root ≡ root_at x.types.now from.variable) × (from.other_root ≡ root_at y.types.now from.variable) }
     requires count_bound { (from.variable + count ≤ variable_room)
         × ((root_at x.types.now (from.variable + count) ≤ type_room) × (root_at y.types.now (from.variable + count) ≤ type_room)) }
-    ensures { VariablesCompared (same_name texts.entry.chunk.now texts.entry.edits.now) x.entry.variables.now x.entry.types.now
+    ensures { VariablesCompared (same_in texts.entry) x.entry.variables.now x.entry.types.now
         y.entry.variables.now y.entry.types.now from.variable count result }
 {
     let mut k = from.root;
@@ -81,15 +81,11 @@ fn same_buffers(texts: Texts<'_>, x: Reflection<'_>, y: Reflection<'_>, count: u
     requires count_bound { (first_variable x.buffers.now count ≤ variable_room) × (first_variable y.buffers.now count ≤ variable_room) }
     requires count_bound_2 { (root_at x.types.now (first_variable x.buffers.now count) ≤ type_room)
         × (root_at y.types.now (first_variable y.buffers.now count) ≤ type_room) }
-    ensures { result ≡ same_list (same_buffer (same_name texts.entry.chunk.now texts.entry.edits.now) (same_name texts.entry.chunk.now texts.entry.edits.now))
+    ensures { result ≡ same_list (same_buffer (same_in texts.entry) (same_in texts.entry))
         (records_from (buffer_in_table x.entry.buffers.now x.entry.variables.now x.entry.types.now) 0 count)
         (records_from (buffer_in_table y.entry.buffers.now y.entry.variables.now y.entry.types.now) 0 count) }
 {
-    let mut next = Place {
-        variable: 0,
-        root: 0,
-        other_root: 0,
-    };
+    let mut next = Place::default();
     for i in 0..count {
         let buffer = tables::buffer_at(x.buffers, i);
         let other = tables::buffer_at(y.buffers, i);
@@ -111,7 +107,7 @@ fn same_buffers(texts: Texts<'_>, x: Reflection<'_>, y: Reflection<'_>, count: u
 pub fn same_reflection(texts: Texts<'_>, x: Reflection<'_>, y: Reflection<'_>) -> bool
     requires sized { Sized x.def x.buffers.now x.types.now }
     requires sized_2 { Sized y.def y.buffers.now y.types.now }
-    ensures { result ≡ same_def (same_name texts.entry.chunk.now texts.entry.edits.now) (same_name texts.entry.chunk.now texts.entry.edits.now)
+    ensures { result ≡ same_def (same_in texts.entry) (same_in texts.entry)
         (reflection_in_tables x.entry.def x.entry.bindings.now x.entry.buffers.now x.entry.variables.now x.entry.types.now)
         (reflection_in_tables y.entry.def y.entry.bindings.now y.entry.buffers.now y.entry.variables.now y.entry.types.now) }
 {

@@ -8,7 +8,7 @@ ghost use Rattle.compare_types.specs.Same.{same_in, tree_of};
 
 use crate::TypeNode;
 use crate::skip::{has_member, skip_type};
-use reflection::{TYPE_WORDS, Text, Texts, TypeDesc};
+use reflection::{Text, Texts, TypeDesc};
 
 // Whether one of the first five numbers of one node is another than that of the other. A quick test: the words are read where they lie, the number of
 // columns, in which most types differ, first. Where it says no, the numbers may differ all the same.
@@ -17,16 +17,10 @@ fn other_numbers(x: TypeNode<'_>, y: TypeNode<'_>) -> bool
     ensures { result ≡ true → same_bytes (numbers_of (node_at x.entry.types.now x.entry.node).numbers)
         (numbers_of (node_at y.entry.types.now y.entry.node).numbers) ≡ false }
 {
-    if x.node >= x.types.len() / TYPE_WORDS || y.node >= y.types.len() / TYPE_WORDS {
+    let (Some(a), Some(b)) = (x.row(), y.row()) else {
         return false;
-    }
-    let i = x.node * TYPE_WORDS;
-    let j = y.node * TYPE_WORDS;
-    x.types[i + 3] != y.types[j + 3]
-        || x.types[i + 2] != y.types[j + 2]
-        || x.types[i + 1] != y.types[j + 1]
-        || x.types[i + 4] != y.types[j + 4]
-        || x.types[i] != y.types[j]
+    };
+    a[3] != b[3] || a[2] != b[2] || a[1] != b[1] || a[4] != b[4] || a[0] != b[0]
 }
 
 // Whether two nodes have the same numbers. No derive says it: the names and the member count are left out.

@@ -5,6 +5,7 @@ use mathlib.Core.List.{List, [], ◌∷◌, ◌++◌, append_assoc}
 use Prim.Native.Nat.{ℕ, suc, ◌+◌, ◌<◌}
 use native.Mathlib.Omega.{arith}
 use borrow.Author.Tests.{eq-eqb, ne_eqb}
+use lib.Dec.{eqb}
 use lib.ListN.{length, drop, get_or}
 use lib.Seq.{drop-cons}
 use Rattle.std.proofs.Common.{Bor}
@@ -30,16 +31,13 @@ joined_assoc c (x ∷ xs) (y ∷ ys) [] = refl
 joined_assoc c (x ∷ xs) (y ∷ ys) (z ∷ zs) = append_assoc (x ∷ xs) (c ∷ y ∷ ys) (c ∷ z ∷ zs)
 
 -- one name more: the first stands alone, another after a `;`
-pub put_first : {lent out out' : Output} (before name : List ℕ) → Appended lent out before → out.at ≡ lent.at → Appended out out' name
-    → Appended lent out' (joined_by 59 before name)
-put_first [] name p e q = appended_then p q
-put_first (x ∷ xs) name p e q = let none : ⊥ = omega (arith, p.text.next) in absurd none
-
-pub put_next : {lent out out' : Output} (before name : List ℕ) → Appended lent out before → (out.at ≡ lent.at → ⊥) → 0 < length name
-    → Appended out out' (59 ∷ name) → Appended lent out' (joined_by 59 before name)
-put_next [] name p other some q = let none : ⊥ = omega (arith, p.text.next) in absurd none
-put_next (x ∷ xs) [] p other some q = let none : ⊥ = omega arith in absurd none
-put_next (x ∷ xs) (y ∷ ys) p other some q = appended_then p q
+module _ {lent out out' : Output} where
+  pub put_joined : (before name : List ℕ) → 0 < length name → Appended lent out before
+      → Appended out out' (cond (eqb out.at lent.at) [] (59 ∷ []) ++ name) → Appended lent out' (joined_by 59 before name)
+  put_joined [] name some p q = let first : out.at ≡ lent.at = omega (arith, p.text.next) in appended_then p (rw (eq-eqb out.at lent.at first) at q)
+  put_joined (x ∷ xs) [] some p q = let none : ⊥ = omega arith in absurd none
+  put_joined (x ∷ xs) (y ∷ ys) some p q =
+      let later : out.at ≡ lent.at → ⊥ = λ e. omega (arith, p.text.next) in appended_then p (rw (ne_eqb out.at lent.at later) at q)
 
 -- a name joined to those before it where its flag is set; and so for each row of a table of flags
 abbrev pub joined_where : List ℕ → Bool → List ℕ → List ℕ

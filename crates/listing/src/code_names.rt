@@ -34,24 +34,14 @@ fn input_type_name(of: ResourceInputType) -> &'static [u8]
     }
 }
 
-// The name of an input type by its number.
-fn listed_input_type(n: u32) -> &'static [u8]
-    ensures name { result.now ≡ listed_input_type n }
-    ensures short { length result.now ≤ 29 }
-{
-    match ResourceInputType::try_from(n) {
-        Ok(known) => input_type_name(known),
-        Err(_) => b"unknown",
-    }
-}
-
 // Writes a space and the name of an input type by its number.
 pub(crate) fn put_input_type(out: &mut Output<'_>, n: u32)
     requires { out.old.at + 64 ≤ farthest }
     ensures text { Appended out.old out.new (32 ∷ pad_to 12 (listed_input_type n)) }
     ensures near { out.new.at ≤ out.old.at + 42 }
 {
-    put_text(out, listed_input_type(n), 12);
+    let name: &[u8] = ResourceInputType::try_from(n).map_or(b"unknown", input_type_name);
+    put_text(out, name, 12);
 }
 
 // The name of a dimension.
@@ -75,22 +65,12 @@ fn dimension_name(of: ResourceDimension) -> &'static [u8]
     }
 }
 
-// The name of a dimension by its number.
-fn listed_dimension(n: u32) -> &'static [u8]
-    ensures name { result.now ≡ listed_dimension n }
-    ensures short { length result.now ≤ 29 }
-{
-    match ResourceDimension::try_from(n) {
-        Ok(known) => dimension_name(known),
-        Err(_) => b"NA",
-    }
-}
-
 // Writes a space and the name of a dimension by its number.
 pub(crate) fn put_dimension(out: &mut Output<'_>, n: u32)
     requires { out.old.at + 64 ≤ farthest }
     ensures text { Appended out.old out.new (32 ∷ pad_to 8 (listed_dimension n)) }
     ensures near { out.new.at ≤ out.old.at + 38 }
 {
-    put_text(out, listed_dimension(n), 8);
+    let name: &[u8] = ResourceDimension::try_from(n).map_or(b"NA", dimension_name);
+    put_text(out, name, 8);
 }

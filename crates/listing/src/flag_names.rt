@@ -1,31 +1,23 @@
 // The flags of a listing: the names of those that are set, or hex where none has a name.
-ghost use Rattle.std.specs.Prelude.{◌≡◌, cond, List, [], ℕ, ◌+◌, ◌≤◌, ◌<◌, length};
+ghost use Rattle.std.specs.Prelude.{cond, [], ◌∷◌, ◌++◌, ◌+◌, ◌≤◌, eqb, length};
 ghost use Rattle.text_output.specs.Cursor.{farthest};
 ghost use Rattle.text_output.specs.Output.{Appended};
-ghost use Rattle.text_output.specs.declared.output.Output.{Output};
 ghost use Rattle.listing.specs.Names.{flag_names};
-ghost use Rattle.listing.specs.Listing.{joined_by, set_names, flags_part};
+ghost use Rattle.listing.specs.Listing.{set_names, flags_part};
 
 use flags::BindingFlags;
 use text_output::Output;
 
-// Writes a name where its flag is set, joined by `;` to the names that stand from `start` on.
-fn put_flag(out: &mut Output<'_>, start: usize, set: bool, name: &[u8])
-    requires { (out.old.at + 1 ≤ farthest) × (0 < length name.now) }
-    ensures names { (first : Output) (before : List ℕ) → first.at ≡ start → Appended first out.old before
-        → Appended first out.new (joined_by 59 before (cond set name.now [])) }
+// Writes a name, after a `;` where a name stands before it from `start` on.
+fn put_name(out: &mut Output<'_>, start: usize, name: &[u8])
+    requires { out.old.at + 1 ≤ farthest }
+    ensures text { Appended out.old out.new (cond (eqb out.old.at start) [] (59 ∷ []) ++ name.now) }
     ensures near { out.new.at ≤ out.old.at + 1 + length name.now }
-    ensures same { out.new.bytes.ghost_name ≡ out.old.bytes.ghost_name }
 {
-    if !set {
-        return;
-    }
-    if out.at == start {
-        out.put_bytes(name);
-    } else {
+    if out.at != start {
         out.put_byte(b';');
-        out.put_bytes(name);
     }
+    out.put_bytes(name);
 }
 
 // Writes the names of the flags that are set, joined by `;`.
@@ -42,7 +34,9 @@ fn put_set_names(out: &mut Output<'_>, flags: BindingFlags)
     ];
     let start = out.at;
     for (set, name) in &names {
-        put_flag(out, start, *set, name);
+        if *set {
+            put_name(out, start, name);
+        }
     }
 }
 

@@ -42,11 +42,7 @@ pub(crate) fn header_at(words: &[u32]) -> ResourceDef
     ResourceDef {
         target_version: word_of(words, 0),
         compile_flags: word_of(words, 1),
-        creator: Text {
-            source: word_of(words, 2),
-            place: word_of(words, 3),
-            length: word_of(words, 4),
-        },
+        creator: Text::from([word_of(words, 2), word_of(words, 3), word_of(words, 4)]),
         rd11: Rd11Header {
             identifier: word_of(words, 5),
             resource_binding_stride: word_of(words, 6),

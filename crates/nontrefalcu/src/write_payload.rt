@@ -18,11 +18,10 @@ fn payload_words(
     requires { PayloadFits chunk_length payload }
     ensures { result ≡ payload_outcome chunk_length payload }
 {
-    match payload {
-        Ok(Payload::Chunk) => Ok([0, chunk_length as u32]),
-        Ok(Payload::Output(n)) => Ok([1, n as u32]),
-        Err(refusal) => Err(refusal),
-    }
+    Ok(match payload? {
+        Payload::Chunk => [0, chunk_length as u32],
+        Payload::Output(n) => [1, n as u32],
+    })
 }
 
 // `payload::write_payload` of the reflection that the header's words and the tables hold: 0, and in `answer` 0 for the chunk or 1 for the output, and how

@@ -64,7 +64,7 @@ fn read_header(chunk: &[u8]) -> Result<ChunkHeader, Refusal>
         _ => return Err(Refusal::BadVersion),
     };
     let offset = words::word_at(chunk, 24);
-    let creator = read_types::text_at(chunk, offset, Refusal::BadCreator)?;
+    let creator = read_types::string_at(chunk, offset).ok_or(Refusal::BadCreator)?;
     if sm5 {
         check_rd11(chunk)?;
     }
@@ -112,13 +112,13 @@ fn read_tables(bytes: &[u8], tables: &mut Tables<'_>) -> Result<ResourceDef, Ref
     };
     let bindings = Records {
         chunk,
-        first: words::word_at(bytes, 12),
+        at: words::word_at(bytes, 12) as usize,
         count: words::word_at(bytes, 8),
     };
     read_tables::walk_bindings(&mut filling, bindings)?;
     let buffers = Records {
         chunk,
-        first: words::word_at(bytes, 4),
+        at: words::word_at(bytes, 4) as usize,
         count: words::word_at(bytes, 0),
     };
     read_tables::walk_buffers(&mut filling, buffers)?;

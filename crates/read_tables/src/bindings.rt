@@ -8,7 +8,7 @@ ghost use Rattle.read_tables.specs.Bindings.{code_check, bindings_progress, bind
 
 use codes::{ResourceDimension, ResourceInputType};
 use flags::BindingFlags;
-use read_types::{Filling, Record, Records};
+use read_types::{Filling, Record, Records, claim};
 use reflection::{BINDING_STRIDE, Refusal, ResourceBinding, Text, WIDE_BINDING_STRIDE};
 
 // How many bytes a binding takes.
@@ -57,26 +57,20 @@ fn binding_record(binding: Record<'_>, name: Text) -> ResourceBinding
 
 // Walks bindings: they follow those that there are.
 #[tactic(auto, using(words::proofs::Parts::inside_fits))]
-pub fn walk_bindings(filling: &mut Filling<'_>, bindings: Records<'_>) -> Result<(), Refusal>
+pub fn walk_bindings(filling: &mut Filling<'_>, mut bindings: Records<'_>) -> Result<(), Refusal>
     ensures walked { Walked
-        (bindings_progress bindings.entry.chunk.bytes.now bindings.entry.chunk.wide bindings.entry.count bindings.entry.first)
+        (bindings_progress bindings.entry.chunk.bytes.now bindings.entry.chunk.wide bindings.entry.count bindings.entry.at)
         filling.old.capacity (up_to_bindings filling.old.capacity filling.old.counts) filling.old.counts
         (bindings_in filling.old.bindings.now) (bindings_in filling.new.bindings.now) (counted result filling.new.counts) }
     ensures kept { OnlyBindings filling.old filling.new }
 {
     let stride = binding_stride(bindings.chunk.wide);
-    let mut at = bindings.first as usize;
     for _ in 0..bindings.count {
-        let n = filling.counts.bindings;
-        if filling.capacity.bindings <= n {
-            return Err(Refusal::NoRoom);
-        }
-        let record = bindings.chunk.record(at, stride)?;
+        let n = claim(&mut filling.counts.bindings, filling.capacity.bindings)?;
+        let record = bindings.next(stride)?;
         check_codes(record)?;
         let name = record.name()?;
         tables::put_binding(filling.bindings, n, binding_record(record, name));
-        filling.counts.bindings = n + 1;
-        at += stride;
     }
     Ok(())
 }

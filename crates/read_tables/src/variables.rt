@@ -1,17 +1,15 @@
 // The walk of a buffer's variables, each with the nodes of its type.
 ghost use Rattle.std.specs.Prelude.{◌≡◌, ◌+◌};
 ghost use Rattle.words.specs.Words.{word_at};
-ghost use Rattle.text.specs.Strings.{FoundWithin};
-ghost use Rattle.reflection.specs.Limits.{chunk_limit};
 ghost use Rattle.read_spec.specs.Read.{variable_stride, default_at};
+ghost use Rattle.read_types.specs.Found.{text_in};
 ghost use Rattle.read_types.specs.Walked.{Walked};
 ghost use Rattle.read_types.specs.Filling.{counted};
 ghost use Rattle.read_tables.specs.Variables.{variable_record_in_chunk, variables_progress, variables_in, up_to_variables, OnlyVariables};
 
 use flags::VariableFlags;
-use read_types::{Filling, Record, Records, found_or, walk_root};
-use reflection::{CBufferVariable, Refusal, SM5_VARIABLE_STRIDE, Text, VARIABLE_STRIDE};
-use text::Span;
+use read_types::{Filling, Record, Records, claim, walk_root};
+use reflection::{CBufferVariable, Refusal, SM5_VARIABLE_STRIDE, Text, VARIABLE_STRIDE, in_chunk};
 
 // How many bytes a variable takes.
 fn variable_stride(sm5: bool) -> usize
@@ -25,21 +23,19 @@ fn variable_stride(sm5: bool) -> usize
 }
 
 // A variable's default: offset 0 means empty, any other must lie in the chunk.
-#[tactic(auto, using(crate::proofs::Default::default_empty))]
-fn default_of(variable: Record<'_>) -> Option<Span>
-    ensures is { result ≡ default_at variable.entry.chunk.bytes.now (word_at variable.entry.chunk.bytes.now (variable.entry.at + 20))
-        (word_at variable.entry.chunk.bytes.now (variable.entry.at + 8)) }
-    ensures within { FoundWithin chunk_limit result }
+#[tactic(auto, using(crate::proofs::Default::default_empty, crate::proofs::Default::default_within))]
+fn default_of(variable: Record<'_>) -> Option<Text>
+    ensures { result ≡ text_in (default_at variable.entry.chunk.bytes.now (word_at variable.entry.chunk.bytes.now (variable.entry.at + 20))
+        (word_at variable.entry.chunk.bytes.now (variable.entry.at + 8))) }
 {
-    let place = variable.word(20) as usize;
-    let length = variable.word(8) as usize;
+    let place = variable.word(20);
+    let length = variable.word(8);
     if place == 0 {
-        return Some(Span {
-            place: 0,
-            length: 0,
-        });
+        return Some(in_chunk(0, 0));
     }
-    words::inside(variable.chunk.bytes.len(), place, length).then_some(Span { place, length })
+    words::inside(variable.chunk.bytes.len(), place as usize, length as usize).then_some(in_chunk(
+        place, length,
+    ))
 }
 
 // The variable, whose name and default are known.
@@ -63,28 +59,22 @@ fn variable_record(variable: Record<'_>, name: Text, default: Text) -> CBufferVa
 
 // Walks variables: they, and the nodes of their types, follow those that there are.
 #[tactic(auto, using(words::proofs::Parts::inside_fits))]
-pub fn walk_variables(filling: &mut Filling<'_>, variables: Records<'_>) -> Result<(), Refusal>
+pub fn walk_variables(filling: &mut Filling<'_>, mut variables: Records<'_>) -> Result<(), Refusal>
     ensures walked { Walked
-        (variables_progress variables.entry.chunk.bytes.now variables.entry.chunk.sm5 variables.entry.count variables.entry.first)
+        (variables_progress variables.entry.chunk.bytes.now variables.entry.chunk.sm5 variables.entry.count variables.entry.at)
         filling.old.capacity (up_to_variables filling.old.capacity filling.old.counts) filling.old.counts
         (variables_in filling.old.variables.now filling.old.types.now) (variables_in filling.new.variables.now filling.new.types.now)
         (counted result filling.new.counts) }
     ensures kept { OnlyVariables filling.old filling.new }
 {
     let stride = variable_stride(variables.chunk.sm5);
-    let mut at = variables.first as usize;
     for _ in 0..variables.count {
-        let n = filling.counts.variables;
-        if filling.capacity.variables <= n {
-            return Err(Refusal::NoRoom);
-        }
-        let record = variables.chunk.record(at, stride)?;
-        let default = found_or(default_of(record), Refusal::DefaultPastEnd)?;
+        let n = claim(&mut filling.counts.variables, filling.capacity.variables)?;
+        let record = variables.next(stride)?;
+        let default = default_of(record).ok_or(Refusal::DefaultPastEnd)?;
         let name = record.name()?;
         tables::put_variable(filling.variables, n, variable_record(record, name, default));
-        filling.counts.variables = n + 1;
         walk_root(filling, variables.chunk, record.word(16))?;
-        at += stride;
     }
     Ok(())
 }

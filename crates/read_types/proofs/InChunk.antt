@@ -1,6 +1,6 @@
 -- What was found in a chunk, by the answer; and that a record reads as the chunk does from its place on.
-use Rattle.std.specs.Prelude.{Option, None, Some, Ok, Err}
-use mathlib.Core.Path.{◌≡◌, refl}
+use Rattle.std.specs.Prelude.{Option, None, Some, Ok, Err, ok_or}
+use mathlib.Core.Path.{◌≡◌, refl, ap, ◌∙◌}
 use mathlib.Core.Bool.{Bool}
 use mathlib.Core.List.{List}
 use Prim.Native.Nat.{ℕ}
@@ -11,8 +11,9 @@ use Rattle.reflection.specs.declared.refusal.Refusal.{Refusal}
 use Rattle.reflection.specs.Texts.{in_chunk}
 use Rattle.read_types.specs.declared.chunk.Chunk.{Chunk}
 use Rattle.read_types.specs.declared.chunk.Record.{Record}
-use Rattle.read_types.specs.Found.{found_or}
+use Rattle.read_types.specs.Found.{text_in, found_or}
 use Rattle.read_types.specs.Chunk.{RecordAt}
+use Rattle.read_types.proofs.Names.{or_refused}
 
 -- Nothing was found.
 pub record NotFound (found : Option Span) (e x : Refusal) : Type 0 where
@@ -33,6 +34,13 @@ not_found None h = record { none = refl; refusal = cc }
 pub text_found : (e : Refusal) {text : Text} (found : Option Span) → Ok text ≡ found_or e found → FoundText found text
 text_found e (Some w) h = record { place = w.place; k = w.length; some = refl; is = cc }
 text_found e None h = cc
+
+-- The same of a text that may not be there.
+pub none_found : {e x : Refusal} (found : Option Span) {o : Option Text} → o ≡ text_in found → Err x ≡ ok_or o e → NotFound found e x
+none_found {e} found is h = not_found found (h ∙ ap (λ (o : Option Text). ok_or o e) is ∙ or_refused found e)
+
+pub some_found : (e : Refusal) {text : Text} (found : Option Span) {o : Option Text} → o ≡ text_in found → Ok text ≡ ok_or o e → FoundText found text
+some_found e found is h = text_found e found (h ∙ ap (λ (o : Option Text). ok_or o e) is ∙ or_refused found e)
 
 -- What is read of a record is what is read of the chunk at its place.
 pub in_record : {A : Type 0} (f : List ℕ → Bool → Bool → ℕ → A) {chunk : Chunk} {at size : ℕ} {r : Record} → RecordAt chunk at size r

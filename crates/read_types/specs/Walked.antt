@@ -1,6 +1,8 @@
 -- Vocabulary of internal contracts: no contract of an exported function and no demand cites it.
 -- What every walk is given and leaves, whichever tables it fills.
-use Rattle.std.specs.Prelude.{◌≡◌, List, ℕ, ◌-◌, ◌/◌, ◌≤◌, length, Ok, Err}
+use Rattle.std.specs.Prelude.{◌≡◌, List, ℕ, ◌+◌, ◌-◌, ◌/◌, ◌<◌, ◌≤◌, length, Ok, Err}
+use Rattle.reflection.specs.declared.refusal.Refusal.{Refusal}
+use Rattle.reflection.specs.declared.refusal.Refusal.TheVariants.{NoRoom}
 use Rattle.read_spec.specs.declared.Counts.{Counts}
 use Rattle.read_spec.specs.Step.{Room, room, Walk}
 use Rattle.read_types.specs.Progress.{Progress, stopped, reached}
@@ -14,6 +16,18 @@ room_left capacity n =
 pub record HasRoom (width capacity n : ℕ) (table : List ℕ) : Type 0 where
   pub taken : n ≤ capacity
   pub fits : capacity ≤ length table / width
+
+-- A table that can take `capacity` records has room for one more, the n-th.
+pub record Claimed (capacity before after n : ℕ) : Type 0 where
+  pub is : n ≡ before
+  pub free : before < capacity
+  pub one_more : after ≡ before + 1
+
+-- It has none.
+pub record Full (capacity before after : ℕ) (e : Refusal) : Type 0 where
+  pub refusal : e ≡ NoRoom
+  pub full : capacity ≤ before
+  pub kept : after ≡ before
 
 -- From n records a table came to m, and to no more than `most`.
 pub record Grew (most n m : ℕ) : Type 0 where

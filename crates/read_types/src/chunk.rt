@@ -6,7 +6,7 @@ ghost use Rattle.reflection.specs.Limits.{chunk_limit};
 ghost use Rattle.reflection.specs.declared.refusal.Refusal.TheVariants.{BadName};
 ghost use Rattle.read_types.specs.Found.{found_or};
 
-use crate::found::text_at;
+use crate::found::string_at;
 use reflection::{Refusal, Text};
 
 // A chunk, with what its header says: whether it is of major 5, and whether its bindings have space and id.
@@ -26,11 +26,11 @@ pub struct Record<'a> {
     pub ghost near: { at ≤ chunk_limit },
 }
 
-// Records of a chunk: `count` of them, from `first` on.
+// Records of a chunk: `count` of them, the next of them at `at`.
 #[derive(Clone, Copy)]
 pub struct Records<'a> {
     pub chunk: Chunk<'a>,
-    pub first: u32,
+    pub at: usize,
     pub count: u32,
 }
 
@@ -47,6 +47,20 @@ impl<'a> Chunk<'a> {
         } else {
             Err(Refusal::RecordPastEnd)
         }
+    }
+}
+
+impl<'a> Records<'a> {
+    ghost use Rattle.read_types.specs.Chunk.{Taken, RecordOutside};
+
+    // The next record, of `size` bytes, or a refusal where it runs past the chunk's end.
+    #[tactic(auto, using(words::proofs::Parts::inside_fits))]
+    pub fn next(&mut self, size: usize) -> Result<Record<'a>, Refusal>
+        ensures { MatchResult result (Taken self.old self.new size) (RecordOutside self.old.chunk self.old.at size) }
+    {
+        let record = self.chunk.record(self.at, size)?;
+        self.at += size;
+        Ok(record)
     }
 }
 
@@ -80,10 +94,11 @@ impl Record<'_> {
     }
 
     // The record's name: the string that its first word leads to.
+    #[tactic(auto, using(crate::proofs::Names::or_refused))]
     pub fn name(self) -> Result<Text, Refusal>
         ensures { result ≡ found_or BadName (cstring_at self.entry.chunk.bytes.now (word_at self.entry.chunk.bytes.now self.entry.at)) }
     {
         let offset = words::word_at(self.chunk.bytes, self.at);
-        text_at(self.chunk.bytes, offset, Refusal::BadName)
+        string_at(self.chunk.bytes, offset).ok_or(Refusal::BadName)
     }
 }

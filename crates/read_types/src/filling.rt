@@ -1,10 +1,10 @@
 // The tables, while they are filled.
-ghost use Rattle.std.specs.Prelude.{◌≡◌, length};
+ghost use Rattle.std.specs.Prelude.{◌≡◌, length, MatchResult};
 ghost use Rattle.reflection.specs.Limits.{binding_width, buffer_width, variable_width, type_width, type_levels};
-ghost use Rattle.read_types.specs.Walked.{HasRoom};
+ghost use Rattle.read_types.specs.Walked.{HasRoom, Claimed, Full};
 
 use read_spec::Counts;
-use reflection::TYPE_LEVELS;
+use reflection::{Refusal, TYPE_LEVELS};
 
 // The four tables with how many records each has and can take, and the type descriptors on the way down to the one that is walked: their offsets, root first.
 #[derive(Drop)]
@@ -21,4 +21,16 @@ pub struct Filling<'a> {
     pub ghost buffers_fit: { HasRoom buffer_width capacity.buffers counts.buffers buffers.now },
     pub ghost variables_fit: { HasRoom variable_width capacity.variables counts.variables variables.now },
     pub ghost types_fit: { HasRoom type_width capacity.types counts.types types.now },
+}
+
+// The number of a table's next record, which is counted from now on; or a refusal where the table is full.
+pub fn claim(count: &mut usize, capacity: usize) -> Result<usize, Refusal>
+    ensures { MatchResult result (Claimed capacity count.old count.new) (Full capacity count.old count.new) }
+{
+    let n = *count;
+    if capacity <= n {
+        return Err(Refusal::NoRoom);
+    }
+    *count = n + 1;
+    Ok(n)
 }

@@ -2,11 +2,11 @@
 #![tactic(auto)]
 
 ghost use Rattle.std.specs.Prelude.{◌≡◌, [], ◌-◌, ◌≤◌, length, take};
-ghost use Rattle.text.specs.Strings.{FoundWithin};
-ghost use Rattle.reflection.specs.Limits.{chunk_limit, type_levels};
+ghost use Rattle.reflection.specs.Limits.{type_levels};
 ghost use Rattle.reflection.specs.Texts.{in_chunk};
 ghost use Rattle.tables.specs.Tables.{type_record};
 ghost use Rattle.read_spec.specs.Read.{type_stride, type_name_at};
+ghost use Rattle.read_types.specs.Found.{text_in};
 ghost use Rattle.read_types.specs.Walk.{found_text, node_from_chunk, turned, type_progress, members_progress, nodes_in, up_to_types, WalkedType};
 ghost use Rattle.read_types.specs.Walked.{Walked};
 ghost use Rattle.read_types.specs.Filling.{counted, OnlyTypes};
@@ -14,15 +14,14 @@ ghost use Rattle.read_types.specs.Filling.{counted, OnlyTypes};
 use reflection::{
     MEMBER_STRIDE, Refusal, SM5_TYPE_STRIDE, TYPE_LEVELS, TYPE_STRIDE, Text, TypeDesc, in_chunk,
 };
-use text::Span;
 
 mod chunk;
 mod filling;
 mod found;
 
 pub use chunk::{Chunk, Record, Records};
-pub use filling::Filling;
-pub use found::{found_or, text_at};
+pub use filling::{Filling, claim};
+pub use found::string_at;
 
 // What a member says of its type: its name and its offset.
 #[derive(Clone, Copy)]
@@ -43,20 +42,16 @@ fn type_stride(sm5: bool) -> usize
 }
 
 // A type's name: only major 5 has one, and offset 0 means empty.
-#[tactic(auto, using(crate::proofs::Names::empty_name, crate::proofs::Names::some_name, crate::proofs::Names::within_more))]
-fn type_name_at(descriptor: Record<'_>) -> Option<Span>
-    ensures is { result ≡ type_name_at descriptor.entry.chunk.bytes.now descriptor.entry.chunk.sm5 descriptor.entry.at }
-    ensures within { FoundWithin chunk_limit result }
+#[tactic(auto, using(crate::proofs::Names::empty_name, crate::proofs::Names::some_name))]
+fn type_name_at(descriptor: Record<'_>) -> Option<Text>
+    ensures { result ≡ text_in (type_name_at descriptor.entry.chunk.bytes.now descriptor.entry.chunk.sm5 descriptor.entry.at) }
 {
     let chunk = descriptor.chunk;
     let offset = descriptor.word_if(chunk.sm5, 32);
     if offset == 0 {
-        Some(Span {
-            place: 0,
-            length: 0,
-        })
+        Some(in_chunk(0, 0))
     } else {
-        text::cstring_at(chunk.bytes, offset as usize)
+        string_at(chunk.bytes, offset)
     }
 }
 
@@ -107,19 +102,15 @@ fn walk_type(
     if filling.path[..depth].contains(&at) {
         return Err(Refusal::TypeCycle);
     }
-    let n = filling.counts.types;
-    if filling.capacity.types <= n {
-        return Err(Refusal::NoRoom);
-    }
+    let n = claim(&mut filling.counts.types, filling.capacity.types)?;
     let record = chunk.record(at as usize, type_stride(chunk.sm5))?;
     let name = type_name_at(record);
-    let node = type_node(record, found::found_text(name), member);
+    let node = type_node(record, name.unwrap_or(in_chunk(0, 0)), member);
     tables::put_type(filling.types, n, node);
-    filling.counts.types = n + 1;
     filling.path[depth] = at;
     let members = Records {
         chunk,
-        first: record.word(12),
+        at: record.word(12) as usize,
         count: record.high(8),
     };
     walk_members(filling, members, levels - 1)?;
@@ -134,26 +125,24 @@ fn walk_type(
 #[tactic(auto, using(words::proofs::Parts::inside_fits))]
 fn walk_members(
     filling: &mut Filling<'_>,
-    members: Records<'_>,
+    mut members: Records<'_>,
     levels: usize,
 ) -> Result<(), Refusal>
     requires { levels ≤ type_levels }
     ensures walked { WalkedType
         (members_progress members.entry.chunk.bytes.now members.entry.chunk.sm5 levels (turned (take (type_levels - levels) filling.old.path))
-        members.entry.count members.entry.first)
+        members.entry.count members.entry.at)
         levels filling.old.capacity filling.old.counts filling.old.types.now filling.new.types.now filling.old.path filling.new.path
         (counted result filling.new.counts) }
     ensures kept { OnlyTypes filling.old filling.new }
 {
-    let mut at = members.first as usize;
     for _ in 0..members.count {
-        let record = members.chunk.record(at, MEMBER_STRIDE as usize)?;
+        let record = members.next(MEMBER_STRIDE as usize)?;
         let member = Member {
             name: record.name()?,
             offset: record.word(8),
         };
         walk_type(filling, members.chunk, record.word(4), levels, member)?;
-        at += MEMBER_STRIDE as usize;
     }
     Ok(())
 }

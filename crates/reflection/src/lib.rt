@@ -52,7 +52,7 @@ impl From<[u32; 3]> for Text {
 }
 
 // The RD11 words that are free; all 0 for major 4.
-#[derive(Clone, Copy)]
+#[derive(Clone, Copy, PartialEq, Eq)]
 pub struct Rd11Header {
     pub identifier: u32,
     pub resource_binding_stride: u32,

@@ -41,10 +41,8 @@ impl<'a> Texts<'a> {
     {
         let place = text.place as usize;
         let length = text.length as usize;
-        match self.source_of(text.source) {
-            Some(held) => words::inside(held.len(), place, length),
-            None => false,
-        }
+        self.source_of(text.source)
+            .is_some_and(|held| words::inside(held.len(), place, length))
     }
 
     // A name's bytes, as a part of whichever text holds it and no copy; the empty part where its place lies outside.
@@ -54,10 +52,8 @@ impl<'a> Texts<'a> {
     {
         let place = name.place as usize;
         let length = name.length as usize;
-        match self.source_of(name.source) {
-            Some(held) => words::part(held, place, length),
-            None => &[],
-        }
+        self.source_of(name.source)
+            .map_or(&[], |held| words::part(held, place, length))
     }
 
     // What stands beside `name_part`: whether the part that it hands back is the name, or a refusal.

@@ -1,5 +1,5 @@
 // The tables, record by record: all bindings, then each buffer with its variables, and each variable with its types.
-ghost use Rattle.std.specs.Prelude.{◌+◌, ◌≤◌, ◌<◌, IfSome};
+ghost use Rattle.std.specs.Prelude.{◌<◌};
 ghost use Rattle.reflection.specs.Limits.{type_levels};
 
 use crate::Reporter;
@@ -8,32 +8,23 @@ use std::io;
 use std::io::Write;
 use std::ops::Range;
 
-// Goes to the next member. `left` has, for each level, how many members are still to come; the deepest level that has any, from `depth` upwards,
-// gives up one. Answers the member's depth, if a member is still to come.
-fn next_member(left: &mut [u32; TYPE_LEVELS], depth: usize) -> Option<usize>
-    requires { depth < type_levels }
-    ensures { IfSome result (λ member. member ≤ depth + 1) }
-{
-    let level = left[..=depth].iter().rposition(|members| 0 < *members)?;
-    left[level] -= 1;
-    Some(level + 1)
-}
-
 impl<W: Write> Reporter<'_, W> {
-    // The types of one variable, which are the next of the nodes, with a member's name and offset before its type. None of them is deeper than the levels.
-    fn type_lines(&mut self, nodes: &mut Range<usize>) -> io::Result<()> {
-        let mut left = [0u32; TYPE_LEVELS];
-        let mut depth = 0;
-        for i in nodes {
-            let node = tables::type_at(self.r.types, i);
-            if 0 < depth {
-                self.mem_line(node)?;
-            }
-            self.type_line(depth, node)?;
-            left[depth] = node.member_count;
-            match next_member(&mut left, depth) {
-                Some(member) if member < TYPE_LEVELS => depth = member,
-                _ => break,
+    // A type, which is the next of the nodes, with a member's name and offset before it, then its members' types. No type that was read is deeper than
+    // the levels, which end the recursion.
+    fn type_lines(&mut self, depth: usize, nodes: &mut Range<usize>) -> io::Result<()>
+        requires { depth < type_levels }
+    {
+        let Some(i) = nodes.next() else {
+            return Ok(());
+        };
+        let node = tables::type_at(self.r.types, i);
+        if 0 < depth {
+            self.mem_line(node)?;
+        }
+        self.type_line(depth, node)?;
+        if depth + 1 < TYPE_LEVELS {
+            for _ in 0..node.member_count {
+                self.type_lines(depth + 1, nodes)?;
             }
         }
         Ok(())
@@ -48,7 +39,7 @@ impl<W: Write> Reporter<'_, W> {
             self.buf_line(b)?;
             for v in next_variables.by_ref().take(b.variable_count as usize) {
                 self.var_line(tables::variable_at(self.r.variables, v))?;
-                self.type_lines(&mut nodes)?;
+                self.type_lines(0, &mut nodes)?;
             }
         }
         Ok(())

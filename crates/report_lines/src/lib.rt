@@ -25,14 +25,13 @@ pub fn report<W: Write>(
     chunk: &[u8],
     tables: &mut WholeTables,
 ) -> io::Result<Option<Refusal>> {
-    match tables.read(chunk) {
+    match tables.read_reflection(chunk) {
         Err(refusal) => {
             stdout::put_refused(out, refusal)?;
             Ok(Some(refusal))
         }
-        Ok(def) => {
+        Ok(r) => {
             let texts = Texts { chunk, edits: &[] };
-            let r = tables.reflection(def);
             Reporter { out, texts, r }.all_lines()?;
             Ok(None)
         }

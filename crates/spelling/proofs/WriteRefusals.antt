@@ -19,9 +19,9 @@ use Rattle.spelling.proofs.WritePieces.{spelled_bytes}
 
 -- what was put for a text that may not be there is what was put for the text or the refusal
 module _ {outcome : Outcome (List ℕ)} (text : Option (List ℕ)) (before after : Output) (is : outcome ≡ spelled_or_refused text) where
-  pub put_or_refused : (put : Option (Unit {0})) → MayPut text before after put → Puts outcome before after (ok_or put NoSpelling)
-  put_or_refused (Some done) put = (put.0, (is ∙ ap spelled_or_refused put.1.0, put.1.1))
-  put_or_refused None none = (is ∙ ap spelled_or_refused none.0, none.1)
+  pub put_or_refused : (done : Option (Unit {0})) → MayPut text before after done → Puts outcome before after (ok_or done NoSpelling)
+  put_or_refused (Some done) p = record { bytes = p.bytes; is = is ∙ ap spelled_or_refused p.is; put = p.put }
+  put_or_refused None p = record { bytes = p.bytes; is = is ∙ ap spelled_or_refused p.is; put = p.put }
 
 -- a declaration line by the spelling of its type
 abbrev pub declared_line : List ℕ → Outcome (List ℕ) → Outcome (List ℕ)

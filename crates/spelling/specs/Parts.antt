@@ -1,15 +1,26 @@
 -- Vocabulary of internal contracts: no contract of an exported function and no demand cites it. A text that is being written, before its end.
 use Rattle.reflection.specs.Outcome.{Outcome}
-use Rattle.std.specs.Prelude.{List, ℕ, ◌≡◌, length, Option, None, Some, Ok, Err}
+use Rattle.std.specs.Prelude.{List, ℕ, ◌≡◌, Option, None, Some, Ok, Err}
 use Rattle.text_output.specs.declared.output.Output.{Output}
 use Rattle.text_output.specs.Output.{Appended}
 
--- A text that may not be there: its bytes were put, or there is none, and the output has its length.
-abbrev pub MayPut : Option (List ℕ) → Output → Output → Option (Unit {0}) → Type 0
-MayPut text before after (Some done) = (bytes : List ℕ) × ((text ≡ Some bytes) × Appended before after bytes)
-MayPut text before after None = (text ≡ None) × (length after.bytes.now ≡ length before.bytes.now)
+-- What a text is, by what was answered: the bytes that were put, or none; for a text that may be refused, the bytes or the refusal.
+abbrev pub put_whole : Option (Unit {0}) → List ℕ → Option (List ℕ)
+put_whole (Some done) bytes = Some bytes
+put_whole None bytes = None
+
+abbrev pub put_unrefused : Outcome (Unit {0}) → List ℕ → Outcome (List ℕ)
+put_unrefused (Ok done) bytes = Ok bytes
+put_unrefused (Err why) bytes = Err why
+
+-- A text that may not be there: its bytes were put. Where there is none, some bytes may have been put before that was seen.
+pub record MayPut (text : Option (List ℕ)) (before after : Output) (done : Option (Unit {0})) : Type 0 where
+  pub bytes : List ℕ
+  pub is : text ≡ put_whole done bytes
+  pub put : Appended before after bytes
 
 -- The same for a text that may be refused.
-abbrev pub Puts : Outcome (List ℕ) → Output → Output → Outcome (Unit {0}) → Type 0
-Puts outcome before after (Ok done) = (bytes : List ℕ) × ((outcome ≡ Ok bytes) × Appended before after bytes)
-Puts outcome before after (Err why) = (outcome ≡ Err why) × (length after.bytes.now ≡ length before.bytes.now)
+pub record Puts (outcome : Outcome (List ℕ)) (before after : Output) (done : Outcome (Unit {0})) : Type 0 where
+  pub bytes : List ℕ
+  pub is : outcome ≡ put_unrefused done bytes
+  pub put : Appended before after bytes

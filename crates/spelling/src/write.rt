@@ -53,7 +53,6 @@ fn put_dimensions(out: &mut Output<'_>, t: TypeDesc) -> Option<()>
     requires { out.old.at + 21 ≤ farthest }
     ensures text { MayPut (dimensions t.class t.rows t.columns) out.old out.new result }
     ensures near { out.new.at ≤ out.old.at + 21 }
-    ensures same { out.new.bytes.ghost_name ≡ out.old.bytes.ghost_name }
 {
     let known = VariableClass::try_from(t.class).ok()?;
     match known {
@@ -91,7 +90,6 @@ fn put_spelling(out: &mut Output<'_>, name: &[u8], t: TypeDesc) -> Option<()>
     requires { out.old.at + 39 ≤ farthest }
     ensures text { MayPut (type_spelling name.now t) out.old out.new result }
     ensures near { out.new.at ≤ out.old.at + 39 + length name.now }
-    ensures same { out.new.bytes.ghost_name ≡ out.old.bytes.ghost_name }
 {
     if by_name(t) {
         if name.is_empty() {
@@ -112,7 +110,6 @@ fn write_type(texts: Texts<'_>, t: TypeDesc, out: &mut Output<'_>) -> Result<(),
     requires { out.old.at ≡ 0 }
     ensures text { Puts (type_name texts.entry.chunk.now texts.entry.edits.now t) out.old out.new result }
     ensures near { out.new.at ≤ 2 ^ 33 }
-    ensures same { out.new.bytes.ghost_name ≡ out.old.bytes.ghost_name }
 {
     if !text_output::printable(texts, t.name) || !t.fits_u16() {
         return Err(Refusal::NotReadable);
@@ -129,8 +126,7 @@ fn write_declaration(
     out: &mut Output<'_>,
 ) -> Result<(), Refusal>
     requires { out.old.at ≡ 0 }
-    ensures text { Puts (declaration texts.entry.chunk.now texts.entry.edits.now t name) out.old out.new result }
-    ensures same { out.new.bytes.ghost_name ≡ out.old.bytes.ghost_name }
+    ensures { Puts (declaration texts.entry.chunk.now texts.entry.edits.now t name) out.old out.new result }
 {
     if !text_output::printable(texts, name) {
         return Err(Refusal::NotReadable);

@@ -1,7 +1,7 @@
 -- What is said of the refusals that a program met.
 use Rattle.std.specs.Prelude.{cond, List, [], ◌∷◌, ◌++◌, ℕ, eqb, Option, None, Some}
+use Rattle.std.specs.List.{starts_with}
 use Rattle.std.specs.Fmt.{decimal}
-use Rattle.words.specs.Words.{word_at}
 use Rattle.reflection.specs.declared.refusal.Refusal.{Refusal}
 use Rattle.reflection.specs.Refusals.{refusal_number}
 use Rattle.text_output.specs.Ascii.{ascii}
@@ -15,7 +15,7 @@ first_of (Some first) refusal = Some first
 -- What is said of a chunk that begins as a DXBC container does.
 abbrev pub container : List ℕ → List ℕ
 container chunk =
-    cond (eqb (word_at chunk 0) 0x43425844) (ascii "the input is a DXBC container, of which an RDEF chunk is a part: take that out first" ++ 10 ∷ []) []
+    cond (starts_with eqb chunk (ascii "DXBC")) (ascii "the input is a DXBC container, of which an RDEF chunk is a part: take that out first" ++ 10 ∷ []) []
 
 -- The line of a refusal with this number, and what is said of the chunk.
 abbrev pub about : List ℕ → ℕ → List ℕ

@@ -9,9 +9,6 @@ use reflection::Refusal;
 use std::io::{BufWriter, Write};
 use std::{fmt, io};
 
-// The first four bytes of a DXBC container, as a word.
-const DXBC: u32 = 0x4342_5844;
-
 // The stream that failed, and how. `main` ends with it, and std says it.
 #[derive(Drop)]
 pub enum Failure {
@@ -41,7 +38,7 @@ pub fn keep_first(first: &mut Option<Refusal>, refusal: Refusal)
 fn put_container<W: Write>(to: &mut W, chunk: &[u8]) -> io::Result<()>
     ensures { OnOk result (Appends (W.contents to.old) (W.contents to.new) (container chunk.now)) }
 {
-    if words::word_at(chunk, 0) == DXBC {
+    if chunk.starts_with(b"DXBC") {
         writeln!(
             to,
             "the input is a DXBC container, of which an RDEF chunk is a part: take that out first"

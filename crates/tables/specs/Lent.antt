@@ -1,4 +1,4 @@
--- Vocabulary of internal contracts: the four tables that are lent to be filled, before and after a call.
+-- The four tables that are lent to be filled, before and after a call, and a reflection of them.
 use Rattle.std.specs.Prelude.{◌≡◌, List, ℕ, ◌++◌, ◌-◌, ◌*◌, length, take, replicate}
 use Rattle.reflection.specs.declared.ResourceDef.{ResourceDef}
 use Rattle.tables.specs.Records.{binding_width, buffer_width, variable_width, type_width}

@@ -1,4 +1,5 @@
 // What a record of a table is as words, and how it is written and read.
+ghost use Rattle.std.proofs.Common.{rules};
 ghost use Rattle.std.specs.Prelude.{◌≡◌, ℕ, List, ◌<◌, ◌≤◌, get_or};
 ghost use Rattle.tables.specs.Records.{put_record, record_word, within, type_width};
 ghost use Rattle.tables.specs.Records.{binding_words_in_table, buffer_words_in_table, variable_words_in_table, type_words_in_table};
@@ -21,12 +22,17 @@ pub(crate) trait Record<const N: usize>: Copy {
 
     fn from_words(row: &[u32; N]) -> Self
         ensures { result ≡ of_words (λ k. get_or row.now k 0) };
+
+    // It has words, and no more than a type node.
+    ghost width: { (0 < N) × (N ≤ type_width) };
 }
 
 impl Record<BINDING_WORDS> for ResourceBinding {
     ghost words = { binding_words_in_table };
 
     ghost of_words = { binding_of };
+
+    ghost width = { Prim.search rules };
 
     #[tactic(auto, unfolding(crate::specs::Records::binding_words_in_table))]
     fn to_words(self) -> [u32; BINDING_WORDS] {
@@ -67,6 +73,8 @@ impl Record<BUFFER_WORDS> for CBufferDef {
 
     ghost of_words = { buffer_of };
 
+    ghost width = { Prim.search rules };
+
     #[tactic(auto, unfolding(crate::specs::Records::buffer_words_in_table))]
     fn to_words(self) -> [u32; BUFFER_WORDS] {
         [
@@ -95,6 +103,8 @@ impl Record<VARIABLE_WORDS> for CBufferVariable {
     ghost words = { variable_words_in_table };
 
     ghost of_words = { variable_of };
+
+    ghost width = { Prim.search rules };
 
     #[tactic(auto, unfolding(crate::specs::Records::variable_words_in_table))]
     fn to_words(self) -> [u32; VARIABLE_WORDS] {
@@ -134,6 +144,8 @@ impl Record<TYPE_WORDS> for TypeDesc {
     ghost words = { type_words_in_table };
 
     ghost of_words = { type_of };
+
+    ghost width = { Prim.search rules };
 
     #[tactic(auto, unfolding(crate::specs::Records::type_words_in_table))]
     fn to_words(self) -> [u32; TYPE_WORDS] {
@@ -180,7 +192,6 @@ impl Record<TYPE_WORDS> for TypeDesc {
 // Writes record i of the table; where it does not lie whole in the table, nothing is written.
 #[tactic(auto, using(crate::proofs::Records::record_inside, crate::proofs::Records::put_inside, crate::proofs::Records::put_outside))]
 pub(crate) fn put<R: Record<N>, const N: usize>(table: &mut [u32], i: usize, r: R)
-    requires { (0 < N) × (N ≤ type_width) }
     ensures { table.new ≡ put_record N table.old i (R.words r) }
 {
     if i < table.len() / N {
@@ -188,25 +199,12 @@ pub(crate) fn put<R: Record<N>, const N: usize>(table: &mut [u32], i: usize, r: 
     }
 }
 
-// The words of record i of the table.
-// Zeros and no Option where it does not lie whole in the table: a table is read for any number of a record (docs/DECISIONS.md).
-#[tactic(auto, using(crate::proofs::Records::row_inside, crate::proofs::Records::row_outside))]
-fn row_at<const N: usize>(table: &[u32], i: usize) -> [u32; N]
-    requires { 0 < N }
-    ensures { (k : ℕ) → get_or result k 0 ≡ within N (record_word N table.now i) k }
-{
-    let (rows, _) = table.as_chunks::<N>();
-    match rows.get(i) {
-        Some(&row) => row,
-        None => [0; N],
-    }
-}
-
-// Record i of the table; of zeros where it does not lie whole in the table.
-#[tactic(auto, using(crate::proofs::Records::same_row))]
+// Record i of the table.
+// Of zeros and no Option where it does not lie whole in the table: a table is read for any number of a record (docs/DECISIONS.md).
+#[tactic(auto, using(crate::proofs::Records::same_row, crate::proofs::Records::row_inside, crate::proofs::Records::row_outside))]
 pub(crate) fn at<R: Record<N>, const N: usize>(table: &[u32], i: usize) -> R
-    requires { (0 < N) × (N ≤ type_width) }
     ensures { result ≡ R.of_words (within N (record_word N table.now i)) }
 {
-    R::from_words(&row_at(table, i))
+    let (rows, _) = table.as_chunks::<N>();
+    R::from_words(rows.get(i).unwrap_or(&[0; N]))
 }

@@ -90,7 +90,7 @@ fn short_utf8_ok(s: &[u8]) -> bool
             let Some(&b) = bytes.next() else {
                 return false;
             };
-            if b < low || high < b {
+            if !(low..=high).contains(&b) {
                 return false;
             }
             (low, high) = (0x80, 0xbf);

@@ -22,6 +22,7 @@ use Rattle.tables.specs.Tables.{table, binding_rows, buffer_rows, variable_rows,
 use Rattle.reflection.specs.Contents.{Bytes, contents}
 use Rattle.read_spec.specs.Step.{full_room}
 use Rattle.read_spec.specs.Read.{read}
+use Rattle.read.specs.Answer.{Parsed}
 use Rattle.read.specs.Parsed.{parsed_of}
 use Rattle.readable.specs.Readable.{table_contents, readable_contents}
 use Rattle.readable.proofs.Reading.{AtMostFull, read_held}
@@ -33,7 +34,7 @@ use Rattle.theorem_round_trip.specs.RoundTrip.{Restored as FormRestored}
 use Rattle.theorem_round_trip.proofs.RoundTrip.{round_trip}
 use Rattle.theorem_functions.specs.declared.WrittenAndRead.{WrittenAndRead}
 use Rattle.theorem_functions.specs.declared.WrittenTwice.{WrittenTwice}
-use Rattle.theorem_functions.specs.Calls.{Lent, Left, reflection_in, form, read_back, written_and_read, WroteAndRead, wrote}
+use Rattle.theorem_functions.specs.Calls.{Lent, Left, reflection_in, form, read_back, written_and_read, WroteAndRead, wrote, with_length, what_was_read}
 use Rattle.theorem_functions.specs.RoundTrip.{written_again, again, SameAgain, FieldsRestored, refused_first, restored, RoundTrip}
 use Rattle.theorem_functions.proofs.Written.{WrittenForm, written_form, written_start, written_rest, written_part}
 use Rattle.theorem_functions.specs.Words.{LentWords}
@@ -98,6 +99,23 @@ module _ (l : Lent) (after : Left) (answer : Outcome WrittenAndRead) (calls : Wr
       go (Ok bytes) same = by_read bytes (read full_room bytes) same
       go (Err d) same = absurd (let apart : ◌≡◌ {A = ℕ} 0 1 = cc in omega arith)
 
+  pub again_none : (e : Refusal) → what_was_read answer ≡ Err e → again scratch room (form l) ≡ Err e
+  unfolding what_was_read with_length
+  again_none e none = go answer refl none
+    where
+      by_read : (w : WrittenAndRead) → answer ≡ Ok w → (p : Parsed) → w.parsed ≡ p → with_length w.length p ≡ Err e
+          → again scratch room (form l) ≡ Err e
+      by_read w is (Ok h) parsed same = absurd (let apart : ◌≡◌ {A = ℕ} 0 1 = cc in omega arith)
+      by_read w is (Err d) parsed same =
+          let d-is : d ≡ e = cc in
+          again_unread w.length d (is ∙ ap (wrote w.length) parsed) ∙ ap Err d-is
+
+      go : (a : Outcome WrittenAndRead) → answer ≡ a → what_was_read a ≡ Err e → again scratch room (form l) ≡ Err e
+      go (Ok w) is same = by_read w is w.parsed refl same
+      go (Err d) is same =
+          let d-is : d ≡ e = cc in
+          again_refused d is ∙ ap Err d-is
+
   pub again_written : (n : ℕ) (h : Header) → answer ≡ wrote n (Ok h) → ByteList after.out
       → again scratch room (form l)
       ≡ write scratch room (table_contents (part after.out 0 n) [] h after.found_bindings after.found_buffers after.found_variables
@@ -128,6 +146,27 @@ module _ (l : Lent) (after : Left) (answer : Outcome WrittenAndRead) (calls : Wr
       go (Err d) formed same = absurd (let apart : ◌≡◌ {A = ℕ} 0 1 = cc in omega arith)
 
 -- The second call of the writer: its chunk is the written part, its text of edits is empty, and its scratch is the first call's.
+-- What was read, by its parts.
+length_of : Outcome (ℕ × Header) → ℕ
+length_of (Ok p) = p.0
+length_of (Err e) = 0
+
+header_or : Header → Outcome (ℕ × Header) → Header
+header_or h (Ok p) = p.1
+header_or h (Err e) = h
+
+pub as_wrote : (answer : Outcome WrittenAndRead) (n : ℕ) (h : Header) → what_was_read answer ≡ Ok (n, h) → answer ≡ wrote n (Ok h)
+unfolding what_was_read with_length length_of header_or
+as_wrote (Ok w) n h same = by_read w.parsed refl same
+  where
+    by_read : (p : Parsed) → w.parsed ≡ p → with_length w.length p ≡ Ok (n, h) → Ok w ≡ wrote n (Ok h)
+    by_read (Ok g) parsed same =
+        let n-is : w.length ≡ n = ap length_of same in
+        let h-is : g ≡ h = ap (header_or h) same in
+        ap (wrote w.length) parsed ∙ (λ i. wrote (n-is i) (Ok (h-is i)))
+    by_read (Err d) parsed same = absurd (let apart : ◌≡◌ {A = ℕ} 0 1 = cc in omega arith)
+as_wrote (Err d) n h same = absurd (let apart : ◌≡◌ {A = ℕ} 0 1 = cc in omega arith)
+
 pub second_call : (l : Lent) (after : Left) (first : Outcome WrittenAndRead) → WroteAndRead l after first → ByteList after.out → (n : ℕ) (h : Header)
     → first ≡ wrote n (Ok h)
     → (room : ℕ) {chunk edits : Bytes} {def : Header} {b f v t : List ℕ} → chunk ≡ part after.out 0 n → edits ≡ [] → def ≡ h

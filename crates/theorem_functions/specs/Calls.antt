@@ -88,6 +88,15 @@ unfoldable pub written_and_read : Outcome Bytes → Outcome WrittenAndRead
 written_and_read (Ok bytes) = wrote (length bytes) (parsed_of (read full_room bytes))
 written_and_read (Err e) = Err e
 
+-- How many bytes were written, and the header of what they read as.
+unfoldable pub with_length : ℕ → Parsed → Outcome (ℕ × Header)
+with_length n (Ok h) = Ok (n, h)
+with_length n (Err e) = Err e
+
+unfoldable pub what_was_read : Outcome WrittenAndRead → Outcome (ℕ × Header)
+what_was_read (Ok written) = with_length written.length written.parsed
+what_was_read (Err e) = Err e
+
 -- What `write_and_read` answers and leaves: every word and every byte.
 pub record WroteAndRead (l : Lent) (after : Left) (answer : Outcome WrittenAndRead) : Type 0 where
   pub answer_is : answer ≡ written_and_read (form l)

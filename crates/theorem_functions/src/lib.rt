@@ -1,7 +1,8 @@
 // Demands 2 and 3 of document 01 as contracts of functions that make the calls: the canonical form is written, and read from the output that it was written to.
 #![tactic(auto)]
 
-ghost use Rattle.theorem_functions.specs.Calls.{lent_in, left_in, WroteAndRead};
+ghost use Rattle.std.specs.Prelude.{◌≡◌};
+ghost use Rattle.theorem_functions.specs.Calls.{lent_in, left_in, WroteAndRead, what_was_read};
 ghost use Rattle.theorem_functions.specs.Sides.{lent_by, left_with, SameSide};
 ghost use Rattle.theorem_functions.specs.Words.{WordsLent, LentWords};
 ghost use Rattle.theorem_functions.specs.Noninterference.{Noninterference};
@@ -82,6 +83,15 @@ pub fn write_pair(a: &mut Side<'_, '_, '_, '_>, b: &mut Side<'_, '_, '_, '_>) ->
     }
 }
 
+// How many bytes were written, and the header of what they read as.
+#[tactic(auto, unfolding(crate::specs::Calls::what_was_read, crate::specs::Calls::with_length))]
+fn what_was_read(first: Result<WrittenAndRead, Refusal>) -> Result<(usize, ResourceDef), Refusal>
+    ensures { result ≡ what_was_read first }
+{
+    let written = first?;
+    Ok((written.length, written.parsed?))
+}
+
 // Demand 2: a reflection is written and read, and what was read is written again (specs/RoundTrip.antt).
 pub fn write_read_write(
     texts: Texts<'_>,
@@ -97,29 +107,15 @@ pub fn write_read_write(
         second.old second.new result }
 {
     let first = write_and_read(texts, r, scratch, out, found);
-    match first {
-        Err(refusal) => WrittenTwice {
-            first,
-            again: text_output::refuse(second, refusal),
-        },
-        Ok(written) => match written.parsed {
-            Err(unread) => WrittenTwice {
-                first,
-                again: text_output::refuse(second, unread),
-            },
-            Ok(def) => {
-                let texts = Texts {
-                    chunk: words::part(out, 0, written.length),
-                    edits: &[],
-                };
-                let again = write::write_rdef_canonical(
-                    texts,
-                    found.reflection(def),
-                    scratch,
-                    second,
-                );
-                WrittenTwice { first, again }
-            }
-        },
-    }
+    let again = match what_was_read(first) {
+        Err(refusal) => text_output::refuse(second, refusal),
+        Ok((length, def)) => {
+            let texts = Texts {
+                chunk: words::part(out, 0, length),
+                edits: &[],
+            };
+            write::write_rdef_canonical(texts, found.reflection(def), scratch, second)
+        }
+    };
+    WrittenTwice { first, again }
 }

@@ -4,6 +4,7 @@
 ghost use Rattle.std.specs.Prelude.{◌≡◌, replicate};
 ghost use Rattle.reflection.specs.Limits.{binding_table, buffer_table, variable_table, type_table};
 ghost use Rattle.read.specs.Parsed.{read_into, ParsedInto};
+ghost use Rattle.whole_tables.specs.Read.{ReadAs};
 
 use reflection::{BINDING_TABLE, BUFFER_TABLE, Refusal, ResourceDef, TYPE_TABLE, VARIABLE_TABLE};
 use tables::{Reflection, Tables};
@@ -46,6 +47,15 @@ impl WholeTables {
             types: &mut self.types,
         };
         read::parse_rdef(chunk, &mut tables)
+    }
+
+    // The same, answered with the tables that the header is of.
+    #[tactic(auto, unfolding(crate::specs::Read::ReadAs))]
+    pub fn read_reflection(&mut self, chunk: &[u8]) -> Result<Reflection<'_>, Refusal>
+        ensures { ReadAs chunk.now self.old result }
+    {
+        let def = self.read(chunk)?;
+        Ok(self.reflection(def))
     }
 
     // The reflection that `def` and the tables hold.

@@ -1,7 +1,7 @@
 // Little-endian numbers in bytes, parts of bytes, zeroing, and runs of items written into a table.
 #![tactic(auto)]
 
-ghost use Rattle.std.specs.Prelude.{◌≡◌, ◌++◌, ◌+◌, ◌-◌, ◌≤◌, ◌<◌, min, length, get_or, take, replicate};
+ghost use Rattle.std.specs.Prelude.{◌≡◌, ◌++◌, ◌+◌, ◌-◌, ◌≤◌, ◌<◌, length, get_or, take, replicate};
 ghost use Rattle.words.specs.Words.{half_at, word_at, word_if, low_at, high_at};
 ghost use Rattle.words.specs.Parts.{inside, part};
 ghost use Rattle.words.specs.Splice.{splice};
@@ -72,13 +72,6 @@ pub fn inside(len: usize, at: usize, size: usize) -> bool
     ensures { result ≡ inside len at size }
 {
     size <= len && at <= len - size
-}
-
-// The lesser of two numbers.
-pub fn least(a: usize, b: usize) -> usize
-    ensures { result ≡ min a b }
-{
-    a.min(b)
 }
 
 // The `n` bytes from `place` on. No Option: a part out of place is the empty part (docs/FORMAT.md).

@@ -25,8 +25,8 @@ fn write_tables(
     if !readable::readable(texts, r) {
         return text_output::refuse(out, Refusal::NotReadable);
     }
-    let at = write_tables::write_chunk(texts, r, scratch, out);
-    let mut written = Output { bytes: out, at };
+    let mut written = Output { bytes: out, at: 0 };
+    write_tables::write_chunk(texts, r, scratch, &mut written);
     written.finish()
 }
 

@@ -50,8 +50,6 @@ pub fn put_name(out: &mut Output<'_>, bytes: &[u8])
     ensures { Appended out.old out.new (bytes.now ++ (0 ∷ [])) }
 {
     out.put_bytes(bytes);
-    if out.at < out.bytes.len() {
-        out.bytes[out.at] = 0;
-    }
+    words::overwrite(out.bytes, out.at, &[0]);
     out.at += 1;
 }

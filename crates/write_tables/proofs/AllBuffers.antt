@@ -31,11 +31,12 @@ use Rattle.write_tables.proofs.Steps.{ran_no_buffers, ran_buffers}
 use Rattle.write_tables.proofs.Pools.{inner_same, defaults_same, ran_from}
 use Rattle.write_tables.proofs.OneSection.{padding_near}
 
-pub no_buffers : {chunk edits buffers types : List ℕ} {variables : List ℕ} {sm5 : Bool} {count at : ℕ} {s out : List ℕ}
-    → BuffersReady chunk edits buffers types count at s → count ≡ 0
-    → BuffersPlaced chunk edits buffers variables types sm5 count at s s out out (record { offset = 0; at = at })
+pub no_buffers : {chunk edits buffers types : List ℕ} {variables : List ℕ} {sm5 : Bool} {count : ℕ} {cursor : WriteCursor} {s out : List ℕ}
+    → BuffersReady chunk edits buffers types count cursor s → count ≡ 0
+    → BuffersPlaced chunk edits buffers variables types sm5 count cursor.at s s out out (record { offset = 0; at = cursor.at })
 unfolding records_from
-no_buffers {chunk} {edits} {buffers} {types} {variables} {sm5} {count} {at} {s} {out} ready none =
+no_buffers {chunk} {edits} {buffers} {types} {variables} {sm5} {count} {cursor} {s} {out} ready none =
+    let at = cursor.at in
     let pools = pools_sharing types s 0 0 in
     record {
       after = beginning at;
@@ -65,8 +66,11 @@ some_buffers chunk edits sm5 held zero some padded named placed written = absurd
 some_buffers chunk edits sm5 held (suc m) some padded named placed written =
     ran_buffers chunk edits sm5 (held 0) (records_from held 1 m) padded named placed written
 
-module _ {chunk edits buffers types : List ℕ} {count at : ℕ} {s : List ℕ} (ready : BuffersReady chunk edits buffers types count at s)
-    {start : ℕ} {out out₁ : List ℕ} (padded : Put out at (replicate (padding_at at) 0xab) out₁ start) where
+module _ {chunk edits buffers types : List ℕ} {count : ℕ} {cursor : WriteCursor} {s : List ℕ} (ready : BuffersReady chunk edits buffers types count cursor s)
+    {start : ℕ} {out out₁ : List ℕ} (padded : Put out cursor.at (replicate (padding_at cursor.at) 0xab) out₁ start) where
+  abbrev at : ℕ
+  at = cursor.at
+
   pub start_near : start ≤ 2800000003
   start_near = omega (arith, ready.nothing.output, padding_near padded)
 
@@ -89,9 +93,10 @@ module _ {chunk edits buffers types : List ℕ} {count at : ℕ} {s : List ℕ} 
     no_defaults : entry_count (default_pool s₁) ≤ 0
     no_defaults = omega (arith, ap entry_count (defaults_same named.same (omega arith) (omega arith) ready.pools.long), ready.nothing.no_defaults)
 
-    pub sections_ready : SectionsReady chunk edits buffers types count at₂ s₁
-    sections_ready = record {
+    pub sections_ready : {mid : WriteCursor} → mid ≡ beginning at₂ → SectionsReady chunk edits buffers types count mid s₁
+    sections_ready is = subst (λ x. SectionsReady chunk edits buffers types count x s₁) (sym is) (record {
       pools = named.ready;
+      no_types = refl;
       bounds = record {
         output = omega (arith, start_near, ready.few_buffers, named.near);
         names = no_names;
@@ -101,7 +106,7 @@ module _ {chunk edits buffers types : List ℕ} {count at : ℕ} {s : List ℕ} 
       };
       fit = ready.fit;
       few_buffers = ready.few_buffers;
-    }
+    })
 
     module _ {variables : List ℕ} {sm5 : Bool} {s₂ out₃ out₄ : List ℕ} {to : WriteCursor} {end : ℕ} (some : count ≡ 0 → ⊥)
         (placed : SectionsPlaced chunk edits buffers variables types sm5 count at₂ s₁ s₂ out₂ out₃ to)

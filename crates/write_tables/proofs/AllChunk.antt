@@ -24,7 +24,7 @@ use Rattle.write_spec.specs.Layout.{place_outer_names, place_inner_name, layout}
 use Rattle.write_spec.specs.Canonical.{canonical}
 use Rattle.write_spec.proofs.Natural.{canonical_through}
 use Rattle.write_pool.specs.Pool.{entry_count}
-use Rattle.write_texts.specs.Cursor.{Placement}
+use Rattle.write_texts.specs.Cursor.{Placement, WriteCursor}
 use Rattle.write_texts.specs.Simulates.{Simulates, text_facts, cell_bytes}
 use Rattle.write_texts.specs.Bytes.{joined_bytes}
 use Rattle.write_texts.specs.Scratch.{inner_start, defaults_start, bindings_start, inner_pool}
@@ -33,7 +33,7 @@ use Rattle.write_texts.proofs.Runs.{ran_like, ran_step}
 use Rattle.tables.specs.TableReflection.{buffer_in_table, reflection_in_tables, Sized}
 use Rattle.write_tables.specs.Offsets.{buffer_name, buffer_section, binding_name, rows_from, binding_row, header_row}
 use Rattle.write_tables.specs.Placed.{pools_sharing, name_at, stored_at, NamesReady, NamesPlaced}
-use Rattle.write_tables.specs.BuffersPlaced.{BuffersReady, BuffersPlaced}
+use Rattle.write_tables.specs.BuffersPlaced.{BuffersReady, BuffersPlaced, beginning}
 use Rattle.write_tables.specs.Chunk.{TooLong, PoolsBegun, ChunkWritten}
 use Rattle.write_tables.proofs.Lists.{rows_records}
 use Rattle.tables.proofs.RecordLists.{length_records, map_records, same_records}
@@ -96,10 +96,13 @@ module _ {h : Header} {buffers types : List ℕ} {chunk edits s s₀ : List ℕ}
   module _ (bindings : List ℕ) {s₁ out out₁ : List ℕ} {at₁ : ℕ}
       (named : NamesPlaced chunk edits (name_at binding_width bindings) h.binding_count bindings_start 1
       (4 * hsize + 4 * (h.binding_count * bsize)) s₀ s₁ out out₁ at₁) where
-    pub buffers_ready : BuffersReady chunk edits buffers types h.buffer_count at₁ s₁
-    buffers_ready =
+    pub buffers_ready : {mid : WriteCursor} {s₁' : List ℕ} → mid ≡ beginning at₁ → s₁' ≡ s₁
+        → BuffersReady chunk edits buffers types h.buffer_count mid s₁'
+    buffers_ready {mid} is kept =
         let long = (begun.ready chunk edits).long in
-        record {
+        subst (λ x. BuffersReady chunk edits buffers types h.buffer_count mid x) (sym kept)
+        (subst (λ x. BuffersReady chunk edits buffers types h.buffer_count x s₁) (sym is) (record {
+          no_types = refl;
           pools = named.ready;
           nothing = record {
             no_names = omega (arith, ap entry_count (inner_same named.same (omega arith) (omega arith) long), begun.no_inner);
@@ -109,7 +112,7 @@ module _ {h : Header} {buffers types : List ℕ} {chunk edits s s₀ : List ℕ}
           };
           fit = record { few_variables = sized.few_variables; few_nodes = sized.few_nodes };
           few_buffers = sized.few_buffers;
-        }
+        }))
 
     module _ {variables : List ℕ} (is-sm5 : sm5 ≡ is_sm5 (rd11_from_header h)) (is_IsWide : wide ≡ is_wide (rd11_from_header h))
         {s₁' s₂ s₃ out₂ out₃ out₄ out₅ out₆ : List ℕ} {e₁ e₂ end : ℕ} {b c : Placement}

@@ -8,7 +8,8 @@ use Rattle.write_spec.specs.Step.{pools}
 use Rattle.write_pool.specs.Pool.{Indexed, entries, entry_count, entries_start, Begun}
 use Rattle.write_texts.specs.Scratch.{inner_start, defaults_start, root_types_start, scratch_size, region, outer_pool, inner_pool, default_pool}
 use Rattle.write_texts.specs.Scratch.{types_from, pools_in}
-use Rattle.write_texts.specs.PlacedInScratch.{Kept}
+use Rattle.write_texts.specs.declared.text_pool.TextPool.{TextPool}
+use Rattle.write_texts.specs.PlacedInScratch.{Kept, start_of, end_of, words_of}
 use Rattle.write_texts.proofs.Regions.{length_region, lent_kept, lent_region}
 use Rattle.write_texts.proofs.ScratchPools.{outer_kept_before, inner_kept_before}
 use Rattle.write_tables.specs.Placed.{pools_sharing}
@@ -28,6 +29,18 @@ module _ (from to : ℕ) (s s' p : List ℕ) (order : from ≤ to) (fits : to �
 
   begun_indexed : (chunk edits : List ℕ) → entries_start ≤ to - from → Indexed chunk edits p
   begun_indexed chunk edits wide = begun.indexed chunk edits (omega (arith, length_region from to s order fits))
+
+-- A pool's region that was lent, as the pool tells where it begins and ends.
+pub pool_lent : (pool : TextPool) (s p : List ℕ) {a b : ℕ} → (a ≡ start_of pool) × (b ≡ end_of pool) → Begun (take (b - a) (drop a s)) p
+    → (take a s ++ (p ++ drop (b - a) (drop a s)) ≡ take (start_of pool) s ++ (p ++ drop (end_of pool - start_of pool) (drop (start_of pool) s)))
+    × Begun (words_of pool s) p
+unfolding region
+pool_lent pool s p is begun =
+    let first = is.0 in
+    let last = is.1 in (
+      λ i. take (first i) s ++ (p ++ drop (last i - first i) (drop (first i) s)),
+      subst (λ (l : List ℕ). Begun l p) (λ i. take (last i - first i) (drop (first i) s)) begun,
+    )
 
 pub pools_begun : (s s₁ s₂ s₃ p₁ p₂ p₃ : List ℕ) → scratch_size ≤ length s
     → s₁ ≡ take 0 s ++ (p₁ ++ drop (inner_start - 0) (drop 0 s)) → Begun (outer_pool s) p₁

@@ -53,6 +53,12 @@ variable_rows_lem sm5 variables types s variable count =
 pub padding_near : {out out' : List ℕ} {at to : ℕ} → Put out at (replicate (padding_at at) 0xab) out' to → (at ≤ to) × (to ≤ at + 3)
 padding_near {at = at} p = omega (arith, p.next, length-replicate {A = ℕ} (padding_at at) 0xab, padding_short at)
 
+-- What a buffer counts is a field of its record.
+pub field_counted : (buffers : List ℕ) (buffer : ℕ) {fields : BufferRecord} → fields ≡ buffer_at buffers buffer
+    → fields.variable_count ≡ count_at buffers buffer
+unfolding count_at
+field_counted buffers buffer is = ap (λ (b : BufferRecord). b.variable_count) is
+
 -- A variable's record is at most as long as one of major 5.
 size_most : {size : ℕ} (sm5 : Bool) → size ≡ variable_size sm5 → size ≤ variable_size true
 size_most false sized = omega (arith, sized)

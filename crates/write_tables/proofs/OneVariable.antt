@@ -24,7 +24,7 @@ use Rattle.write_texts.specs.Scratch.{variable_offsets_width, inner_start, defau
 use Rattle.write_texts.specs.Scratch.{inner_pool}
 use Rattle.write_texts.specs.Scratch.{default_pool}
 use Rattle.write_texts.specs.PlacedInScratch.{inner_room, default_room, Kept, TextPlaced}
-use Rattle.write_texts.specs.PlacedInPool.{SourcesFit, farthest_offset}
+use Rattle.write_texts.specs.PlacedInPool.{farthest_offset}
 use Rattle.write_texts.proofs.ScratchPools.{inner_kept_before, defaults_kept_after, defaults_kept_before, ready_kept}
 use Rattle.write_texts.proofs.Runs.{ran_like, ran_step}
 use Rattle.tables.specs.Trees.{tree_at, type_tree}
@@ -74,10 +74,9 @@ module _ {chunk edits types : List ℕ} {variable : ℕ} {cursor : WriteCursor} 
 
   module _ {step : WriteStep Text Text ℕ} {s₁ out out₁ : List ℕ} {a : Placement}
       (named : TextPlaced chunk edits step cursor.at inner_pool inner_start defaults_start s s₁ out out₁ a) where
-    pub type_ready : {at-name : WriteCursor} → SourcesFit chunk edits → at-name ≡ moved_to a.at cursor
+    pub type_ready : {at-name : WriteCursor} → at-name ≡ moved_to a.at cursor
         → TypeReady chunk edits types type_levels 0 records_start at-name s₁
-    type_ready sources is = subst (λ x. TypeReady chunk edits types type_levels 0 records_start x s₁) (sym is) (record {
-      short = sources;
+    type_ready is = subst (λ x. TypeReady chunk edits types type_levels 0 records_start x s₁) (sym is) (record {
       ready = named.ready;
       room = record {
         cursor = omega (arith, ready.bounds.output, named.near_high);

@@ -48,7 +48,11 @@ pub record SectionsSoFar (chunk edits buffers variables types : List ℕ) (sm5 :
   pub near : cursor.at ≤ at + buffer * 4 + cursor.node * node_bytes
   pub out_long : length out ≡ length out₀
 
-module _ {chunk edits buffers types : List ℕ} {count at : ℕ} {s₀ : List ℕ} (ready : SectionsReady chunk edits buffers types count at s₀) where
+module _ {chunk edits buffers types : List ℕ} {count : ℕ} {begun : WriteCursor} {s₀ : List ℕ}
+    (ready : SectionsReady chunk edits buffers types count begun s₀) where
+  abbrev at : ℕ
+  at = begun.at
+
   nothing_placed : {variables : List ℕ} {sm5 : Bool} {out₀ : List ℕ}
       → SectionsSoFar chunk edits buffers variables types sm5 count at s₀ out₀ s₀ out₀ (beginning at) 0 0
   unfolding records_from first_variable root_at

@@ -43,10 +43,11 @@ pub record SectionPlaced (chunk edits buffers variables types : List ℕ) (sm5 :
 abbrev pub beginning : ℕ → WriteCursor
 beginning at = record { at = at; node = 0; member_types = 0; root_types = 0 }
 
--- The sections of the first `count` buffers can be placed.
-pub record SectionsReady (chunk edits buffers types : List ℕ) (count at : ℕ) (s : List ℕ) : Type 0 where
+-- The sections of the first `count` buffers can be placed: the cursor has passed no node.
+pub record SectionsReady (chunk edits buffers types : List ℕ) (count : ℕ) (cursor : WriteCursor) (s : List ℕ) : Type 0 where
   pub pools : PoolsReady chunk edits s
-  pub bounds : CursorBounds 0 200000 (beginning at) s
+  pub no_types : cursor ≡ beginning cursor.at
+  pub bounds : CursorBounds 0 200000 (beginning cursor.at) s
   pub fit : CountsFit buffers types count
   pub few_buffers : count ≤ buffer_room
 
@@ -66,10 +67,11 @@ pub record NothingPlaced (count at : ℕ) (s : List ℕ) : Type 0 where
   pub names_room : entry_count (outer_pool s) + count ≤ outer_room
   pub output : at ≤ 2800000000
 
--- The first `count` buffers can be placed.
-pub record BuffersReady (chunk edits buffers types : List ℕ) (count at : ℕ) (s : List ℕ) : Type 0 where
+-- The first `count` buffers can be placed: the cursor has passed no node.
+pub record BuffersReady (chunk edits buffers types : List ℕ) (count : ℕ) (cursor : WriteCursor) (s : List ℕ) : Type 0 where
   pub pools : PoolsReady chunk edits s
-  pub nothing : NothingPlaced count at s
+  pub no_types : cursor ≡ beginning cursor.at
+  pub nothing : NothingPlaced count cursor.at s
   pub fit : CountsFit buffers types count
   pub few_buffers : count ≤ buffer_room
 

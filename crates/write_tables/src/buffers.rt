@@ -1,8 +1,6 @@
 // The buffers: their names, the section of each, and their records.
-ghost use Rattle.std.specs.Prelude.{◌≡◌};
-ghost use Rattle.tables.specs.TableReflection.{count_at};
 ghost use Rattle.write_texts.specs.Writer.{cursor_of, placed_at, SameLent};
-ghost use Rattle.write_tables.specs.BuffersPlaced.{SectionReady, SectionPlaced, SectionsReady, SectionsPlaced, BuffersReady, BuffersPlaced, beginning};
+ghost use Rattle.write_tables.specs.BuffersPlaced.{SectionReady, SectionPlaced, SectionsReady, SectionsPlaced, BuffersReady, BuffersPlaced};
 
 use crate::names::NamedTable;
 use crate::records::{BUFFER_SIZE, put_buffer_records, put_variable_records, variable_size};
@@ -10,13 +8,6 @@ use crate::variables::place_variables;
 use reflection::BUFFER_WORDS;
 use tables::Reflection;
 use write_texts::{BUFFER_OFFSETS, BUFFERS_START, Source, Writer};
-
-// How many variables a buffer counts.
-fn count_at(buffers: &[u32], buffer: usize) -> usize
-    ensures { result ≡ count_at buffers.now buffer }
-{
-    tables::buffer_at(buffers, buffer).variable_count as usize
-}
 
 // Places the section of a buffer: padding, the records of its variables, the first of which is `variable`, and what they point to.
 fn place_section(
@@ -33,7 +24,7 @@ fn place_section(
     ensures same { SameLent w.old w.new }
 {
     let fields = tables::buffer_at(r.buffers, buffer);
-    let count = count_at(r.buffers, buffer);
+    let count = fields.variable_count as usize;
     write_texts::put_padding(w.out);
     let start = w.out.at;
     w.out.at = start + 4 * (count * variable_size(source.sm5));
@@ -47,8 +38,7 @@ fn place_section(
 
 // Places the sections of the first `count` buffers, before which no type is placed.
 fn place_sections(source: Source<'_>, r: Reflection<'_>, w: &mut Writer<'_, '_>, count: usize)
-    requires ready { SectionsReady source.texts.chunk.now source.texts.edits.now r.buffers.now source.types.now count w.old.out.now.at w.old.scratch.now }
-    requires no_types { cursor_of w.old ≡ beginning w.old.out.now.at }
+    requires { SectionsReady source.texts.chunk.now source.texts.edits.now r.buffers.now source.types.now count (cursor_of w.old) w.old.scratch.now }
     ensures placed { SectionsPlaced source.entry.texts.chunk.now source.entry.texts.edits.now r.entry.buffers.now r.entry.variables.now
         source.entry.types.now source.entry.sm5 count w.old.out.now.at w.old.scratch.now w.new.scratch.now
         w.old.out.now.bytes.now w.new.out.now.bytes.now (cursor_of w.new) }
@@ -57,7 +47,7 @@ fn place_sections(source: Source<'_>, r: Reflection<'_>, w: &mut Writer<'_, '_>,
     let mut variable = 0;
     for buffer in 0..count {
         place_section(source, r, w, buffer, variable);
-        variable += count_at(r.buffers, buffer);
+        variable += tables::buffer_at(r.buffers, buffer).variable_count as usize;
     }
 }
 
@@ -68,8 +58,7 @@ pub fn place_buffers(
     w: &mut Writer<'_, '_>,
     count: usize,
 ) -> u32
-    requires ready { BuffersReady source.texts.chunk.now source.texts.edits.now r.buffers.now source.types.now count w.old.out.now.at w.old.scratch.now }
-    requires no_types { cursor_of w.old ≡ beginning w.old.out.now.at }
+    requires { BuffersReady source.texts.chunk.now source.texts.edits.now r.buffers.now source.types.now count (cursor_of w.old) w.old.scratch.now }
     ensures placed { BuffersPlaced source.entry.texts.chunk.now source.entry.texts.edits.now r.entry.buffers.now r.entry.variables.now
         source.entry.types.now source.entry.sm5 count w.old.out.now.at w.old.scratch.now w.new.scratch.now
         w.old.out.now.bytes.now w.new.out.now.bytes.now (placed_at result w.new) }

@@ -13,26 +13,26 @@ use crate::records::{binding_size, header_size, put_binding_records, put_header}
 use reflection::{BINDING_WORDS, Texts};
 use tables::Reflection;
 use text_output::Output;
-use write_texts::{BINDINGS_START, DEFAULTS_START, INNER_START, ROOT_TYPES_START, Source, Writer};
+use write_texts::{BINDINGS_START, Source, TextPool, Writer};
 
 // Makes the three pools of texts empty.
 fn begin_pools(scratch: &mut [u32])
     requires { scratch_size ≤ length scratch.old }
     ensures { PoolsBegun scratch.old scratch.new }
 {
-    write_pool::begin(&mut scratch[0..INNER_START]);
-    write_pool::begin(&mut scratch[INNER_START..DEFAULTS_START]);
-    write_pool::begin(&mut scratch[DEFAULTS_START..ROOT_TYPES_START]);
+    write_pool::begin(&mut scratch[TextPool::OuterNames.region()]);
+    write_pool::begin(&mut scratch[TextPool::InnerNames.region()]);
+    write_pool::begin(&mut scratch[TextPool::Defaults.region()]);
 }
 
-// Writes the chunk with a writer that has placed nothing; the answer is how many bytes it has.
-fn place_chunk<'a>(texts: Texts<'a>, r: Reflection<'a>, w: &mut Writer<'_, '_>) -> usize
+// Writes the chunk with a writer that has placed nothing; its output's cursor is then behind the chunk.
+fn place_chunk<'a>(texts: Texts<'a>, r: Reflection<'a>, w: &mut Writer<'_, '_>)
     requires sources_fit { SourcesFit texts.chunk.now texts.edits.now }
     requires sized { Sized r.def r.buffers.now r.types.now }
     requires scratch_size_in_bounds { scratch_size ≤ length w.old.scratch.now }
     requires no_types { cursor_of w.old ≡ beginning w.old.out.now.at }
     ensures written { ChunkWritten texts.entry.chunk.now texts.entry.edits.now r.entry.def r.entry.bindings.now r.entry.buffers.now
-        r.entry.variables.now r.entry.types.now w.old.scratch.now w.new.scratch.now w.old.out.now.bytes.now w.new.out.now.bytes.now result }
+        r.entry.variables.now r.entry.types.now w.old.scratch.now w.new.scratch.now w.old.out.now.bytes.now w.new.out.now.bytes.now w.new.out.now.at }
     ensures same { SameLent w.old w.new }
 {
     begin_pools(w.scratch);
@@ -63,30 +63,30 @@ fn place_chunk<'a>(texts: Texts<'a>, r: Reflection<'a>, w: &mut Writer<'_, '_>) 
     let end = w.out.at;
     w.out.at = 0;
     put_header(r.def, buffers, creator, w.out);
-    end
+    w.out.at = end;
 }
 
-// Writes the canonical form of the reflection that the header and the tables hold; the answer is how many bytes it has. What lies past the output's end is
-// dropped.
+// Writes the canonical form of the reflection that the header and the tables hold from the output's begin on; the output's cursor is then behind it. What lies
+// past the output's end is dropped.
 pub fn write_chunk<'a>(
     texts: Texts<'a>,
     r: Reflection<'a>,
     scratch: &mut [u32],
-    out: &mut [u8],
-) -> usize
+    out: &mut Output<'_>,
+)
     requires sources_fit { SourcesFit texts.chunk.now texts.edits.now }
     requires sized { Sized r.def r.buffers.now r.types.now }
     requires scratch_size_in_bounds { scratch_size ≤ length scratch.old }
-    ensures { ChunkWritten texts.entry.chunk.now texts.entry.edits.now r.entry.def r.entry.bindings.now r.entry.buffers.now r.entry.variables.now
-        r.entry.types.now scratch.old scratch.new out.old out.new result }
+    ensures written { ChunkWritten texts.entry.chunk.now texts.entry.edits.now r.entry.def r.entry.bindings.now r.entry.buffers.now
+        r.entry.variables.now r.entry.types.now scratch.old scratch.new out.old.bytes.now out.new.bytes.now out.new.at }
+    ensures same { out.new.bytes.ghost_name ≡ out.old.bytes.ghost_name }
 {
-    let mut written = Output { bytes: out, at: 0 };
     let mut w = Writer {
         scratch,
-        out: &mut written,
+        out,
         node: 0,
         member_types: 0,
         root_types: 0,
     };
-    place_chunk(texts, r, &mut w)
+    place_chunk(texts, r, &mut w);
 }

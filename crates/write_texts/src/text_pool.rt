@@ -5,6 +5,7 @@ ghost use Rattle.write_texts.specs.PlacedInPool.{farthest_offset, text_written, 
 ghost use Rattle.write_texts.specs.PlacedInScratch.{start_of, end_of};
 
 use crate::scratch::{DEFAULTS_START, INNER_START, ROOT_TYPES_START};
+use std::ops::Range;
 use text_output::Output;
 
 // Names of bindings and buffers, all other names, defaults.
@@ -16,25 +17,14 @@ pub enum TextPool {
 }
 
 impl TextPool {
-    // Where the pool's region of the scratch begins.
-    pub fn start(self) -> usize
-        ensures { result ≡ start_of self }
+    // The pool's region of the scratch.
+    pub fn region(self) -> Range<usize>
+        ensures { (result.start ≡ start_of self) × (result.end ≡ end_of self) }
     {
         match self {
-            TextPool::OuterNames => 0,
-            TextPool::InnerNames => INNER_START,
-            TextPool::Defaults => DEFAULTS_START,
-        }
-    }
-
-    // Where it ends.
-    pub fn end(self) -> usize
-        ensures { result ≡ end_of self }
-    {
-        match self {
-            TextPool::OuterNames => INNER_START,
-            TextPool::InnerNames => DEFAULTS_START,
-            TextPool::Defaults => ROOT_TYPES_START,
+            TextPool::OuterNames => 0..INNER_START,
+            TextPool::InnerNames => INNER_START..DEFAULTS_START,
+            TextPool::Defaults => DEFAULTS_START..ROOT_TYPES_START,
         }
     }
 

@@ -87,7 +87,7 @@ impl Writer<'_, '_> {
         if self.out.at > CHUNK_LIMIT {
             return 0;
         }
-        let words = &mut self.scratch[pool.start()..pool.end()];
+        let words = &mut self.scratch[pool.region()];
         place_in_pool(source, pool, text, words, self.out)
     }
 }

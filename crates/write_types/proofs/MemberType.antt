@@ -5,7 +5,8 @@ use mathlib.Core.Logic.{inl, inr}
 use mathlib.Core.Path.{◌≡◌, refl, sym, ap, ◌∙◌, subst}
 use mathlib.Core.Bool.{Bool, true}
 use mathlib.Core.List.{List, [], ◌∷◌}
-use Prim.Native.Nat.{ℕ, ◌+◌, ◌*◌, ◌<◌}
+use Prim.Native.Nat.{ℕ, ◌+◌, ◌*◌, ◌-◌, ◌/◌, ◌<◌}
+use lib.ListN.{length, take, drop}
 use native.Mathlib.Nat.{add-zero}
 use native.Mathlib.Omega.{arith}
 use Rattle.words.specs.Splice.{splice}
@@ -25,7 +26,7 @@ use Rattle.write_types.specs.Trees.{member_tree}
 use Rattle.write_types.specs.Room.{TypeReady, Keeps}
 use Rattle.write_types.specs.TypePlaced.{shared_offset, known_offset, TypeWritten, MemberTypePlaced}
 use Rattle.write_types.specs.Placed.{PlacedType}
-use Rattle.write_types.proofs.Finding.{known_some, known_none}
+use Rattle.write_types.proofs.Finding.{known_lent, known_some, known_none}
 use Rattle.write_types.proofs.Ready.{with_node_lem, with_members, entry_room, stays}
 use Rattle.write_types.proofs.Stacks.{SameTexts, write_kept, texts_kept, entry_pushed, keeps_same, keeps_then, keeps_entries}
 use Rattle.write_types.proofs.Sharing.{looked, type_found, type_fresh, looked_is}
@@ -135,7 +136,19 @@ module _ {chunk edits types : List ℕ} {levels base records-top : ℕ} {cursor 
         one = omega arith;
       }
 
-  -- By what the code looked up.
+  -- By what the code looked up among the entries that it lent.
+  abbrev lent_types : List ℕ
+  lent_types =
+      take (member_types_start + (base + count) * shared_width - (member_types_start + base * shared_width)) (drop (member_types_start + base * shared_width) s)
+
+  pub known_here : {known : Option ℕ}
+      → known ≡ known_offset true chunk edits types levels cursor.node lent_types 0 0 (length lent_types / shared_width) cursor.at
+      → known ≡ known_offset true chunk edits types levels cursor.node s member_types_start base count cursor.at
+  known_here is =
+      is
+      ∙ known_lent chunk edits types levels cursor.node s member_types_start base count (member_types_start + base * shared_width)
+      (member_types_start + (base + count) * shared_width) refl refl (omega (arith, entry_room start, start.ready.long)) true cursor.at
+
   module _ {known : Option ℕ} (is_known : known ≡ known_offset true chunk edits types levels cursor.node s member_types_start base count cursor.at) where
     pub member_known : {sm5 : Bool} {offset next : ℕ} {out : List ℕ} → known ≡ Some offset → next ≡ (tree_at types levels cursor.node).next
         → MemberTypePlaced chunk edits types sm5 levels base records-top cursor s s out out (record { offset = offset; cursor = with_node_lem cursor next })

@@ -174,7 +174,6 @@ module _ {chunk edits types : List ℕ} {levels count base records-top : ℕ} {c
           s s₁ out out₁ name) where
         pub type_ready : TypeReady chunk edits types (levels - 1) base top (with_at to name.at) s₁
         type_ready = record {
-          short = start.short;
           ready = named.ready;
           room = record {
             cursor = omega (arith, room_here.cursor, named.near_high);

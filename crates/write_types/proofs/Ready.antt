@@ -39,7 +39,6 @@ module _ {chunk edits types : List ℕ} {levels base records-top : ℕ} {cursor 
   -- The types of its own members begin after those that lie on the stack.
   pub down_ready : TypeReady chunk edits types levels (base + cursor.member_types) records-top (with_members cursor 0) s
   down_ready = record {
-    short = start.short;
     ready = start.ready;
     room = record {
       cursor = start.room.cursor;

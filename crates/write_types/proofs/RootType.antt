@@ -5,9 +5,9 @@ use mathlib.Core.Logic.{inl, inr}
 use mathlib.Core.Path.{◌≡◌, refl, sym, ap, ◌∙◌}
 use mathlib.Core.Bool.{Bool, true, false}
 use mathlib.Core.List.{List, [], ◌∷◌}
-use Prim.Native.Nat.{ℕ, ◌+◌, ◌*◌, ◌≤◌, ◌<◌}
+use Prim.Native.Nat.{ℕ, ◌+◌, ◌*◌, ◌-◌, ◌/◌, ◌≤◌, ◌<◌}
 use native.Mathlib.Omega.{arith}
-use lib.ListN.{get_or}
+use lib.ListN.{length, get_or, take, drop}
 use Rattle.words.specs.Splice.{splice}
 use Rattle.reflection.specs.declared.Text.{Text}
 use Rattle.reflection.specs.Reflection.{TypeDesc}
@@ -28,7 +28,7 @@ use Rattle.write_types.specs.Trees.{member_tree}
 use Rattle.write_types.specs.Room.{TypeReady}
 use Rattle.write_types.specs.TypePlaced.{shared_offset, known_offset, TypeWritten, RootTypePlaced}
 use Rattle.write_types.specs.Placed.{PlacedType}
-use Rattle.write_types.proofs.Finding.{known_some, known_none}
+use Rattle.write_types.proofs.Finding.{known_lent, known_some, known_none}
 use Rattle.write_types.proofs.Ready.{with_node_lem, stays}
 use Rattle.write_types.proofs.Stacks.{SameTexts, write_kept, texts_kept, entry_pushed}
 use Rattle.write_types.proofs.Sharing.{looked, type_found, type_fresh, looked_is}
@@ -180,7 +180,18 @@ module _ {chunk edits types : List ℕ} {levels : ℕ} {cursor : WriteCursor} {s
           one_root = omega arith;
         }
 
-  -- By what the code looked up.
+  -- By what the code looked up among the entries that it lent.
+  abbrev lent_types : List ℕ
+  lent_types = take (root_types_start + roots * shared_width - root_types_start) (drop root_types_start s)
+
+  pub known_here : roots < variable_room → (share : Bool) {known : Option ℕ}
+      → known ≡ known_offset share chunk edits types levels cursor.node lent_types 0 0 (length lent_types / shared_width) cursor.at
+      → known ≡ known_offset share chunk edits types levels cursor.node s root_types_start 0 roots cursor.at
+  known_here few share is =
+      is
+      ∙ known_lent chunk edits types levels cursor.node s root_types_start 0 roots root_types_start (root_types_start + roots * shared_width)
+      (omega arith) (omega arith) (omega (arith, few, start.ready.long)) share cursor.at
+
   module _ (share : Bool) {known : Option ℕ}
       (is_known : known ≡ known_offset share chunk edits types levels cursor.node s root_types_start 0 roots cursor.at) where
     pub root_known : {sm5 : Bool} {offset next : ℕ} {out : List ℕ} → known ≡ Some offset → next ≡ (tree_at types levels cursor.node).next

@@ -93,7 +93,6 @@ module _ {chunk edits types : List ℕ} {levels base records-top : ℕ} {cursor 
 
     pub members_ready : MembersReady chunk edits types levels count base records-top inside s₁
     members_ready = record {
-      short = start.short;
       ready = named.ready;
       room = record {
         cursor = omega (arith, start.room.cursor, named.near_high);

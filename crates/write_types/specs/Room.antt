@@ -8,7 +8,7 @@ use Rattle.write_texts.specs.Cursor.{WriteCursor}
 use Rattle.write_texts.specs.Scratch.{member_width, shared_width, inner_start, defaults_start, member_types_start, records_start, variables_start}
 use Rattle.write_texts.specs.Scratch.{inner_pool}
 use Rattle.write_texts.specs.Scratch.{PoolsReady}
-use Rattle.write_texts.specs.PlacedInPool.{placed_limit, SourcesFit}
+use Rattle.write_texts.specs.PlacedInPool.{placed_limit}
 use Rattle.tables.specs.Trees.{tree_at}
 use Rattle.write_types.specs.Trees.{members_from}
 
@@ -28,17 +28,15 @@ pub record NodeRoom (s : List ℕ) (node named at entries records-top : ℕ) : T
   pub records_low : records_start ≤ records-top
   pub records_high : records-top ≤ records_start + node * member_width
 
--- What placing or writing the type at the cursor's node begins with: the texts are short, the pools in order, and there is room for all nodes of the type. The
+-- What placing or writing the type at the cursor's node begins with: the pools are in order, and there is room for all nodes of the type. The
 -- types of members are the cursor's from entry `base` on.
 pub record TypeReady (chunk edits types : List ℕ) (levels base records-top : ℕ) (cursor : WriteCursor) (s : List ℕ) : Type 0 where
-  pub short : SourcesFit chunk edits
   pub ready : PoolsReady chunk edits s
   pub room : NodeRoom s cursor.node 1 cursor.at (base + cursor.member_types) records-top
   pub within : (tree_at types levels cursor.node).next ≤ type_room
 
 -- The same for `count` members, the first at the cursor's node, of a type with so many levels: without levels there are none.
 pub record MembersReady (chunk edits types : List ℕ) (levels count base records-top : ℕ) (cursor : WriteCursor) (s : List ℕ) : Type 0 where
-  pub short : SourcesFit chunk edits
   pub ready : PoolsReady chunk edits s
   pub room : NodeRoom s cursor.node 0 cursor.at (base + cursor.member_types) records-top
   pub within : (members_from types levels count cursor.node).next ≤ type_room

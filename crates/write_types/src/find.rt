@@ -1,26 +1,26 @@
 // Finds an equal type among those that were written.
-ghost use Rattle.std.specs.Prelude.{◌≡◌};
+ghost use Rattle.std.specs.Prelude.{◌≡◌, ◌/◌, length};
+ghost use Rattle.write_texts.specs.Scratch.{shared_width};
 ghost use Rattle.write_types.specs.TypePlaced.{type_offset, shared_offset, known_offset};
 
-use crate::list::TypeList;
 use compare_types::TypeNode;
 use reflection::{CHUNK_LIMIT, Texts};
 use write_texts::SHARED_WORDS;
 
-// The offset of a type equal to that at node x: the newest one's of a list.
-fn find_type(texts: Texts<'_>, x: TypeNode<'_>, levels: usize, list: TypeList<'_>) -> Option<u32>
+// The offset of a type equal to that at node x: the newest one's of some entries.
+fn find_type(texts: Texts<'_>, x: TypeNode<'_>, levels: usize, entries: &[u32]) -> Option<u32>
     ensures { result
-        ≡ type_offset texts.entry.chunk.now texts.entry.edits.now x.entry.types.now levels x.entry.node
-        list.entry.scratch.now list.entry.start list.entry.base list.entry.count }
+        ≡ type_offset texts.entry.chunk.now texts.entry.edits.now x.entry.types.now levels x.entry.node entries.now 0 0 (length entries.now / shared_width) }
 {
-    for i in (0..list.count).rev() {
-        let at = list.start + (list.base + i) * SHARED_WORDS;
+    let (pairs, _) = entries.as_chunks::<SHARED_WORDS>();
+    for i in (0..pairs.len()).rev() {
+        let [node, offset] = pairs[i];
         let other = TypeNode {
             types: x.types,
-            node: list.scratch[at] as usize,
+            node: node as usize,
         };
         if compare_types::same_type(texts, x, other, levels) {
-            return Some(list.scratch[at + 1]);
+            return Some(offset);
         }
     }
     None
@@ -31,15 +31,15 @@ fn find_shared(
     texts: Texts<'_>,
     x: TypeNode<'_>,
     levels: usize,
-    list: TypeList<'_>,
+    entries: &[u32],
     share: bool,
 ) -> Option<u32>
     ensures { result
         ≡ shared_offset share texts.entry.chunk.now texts.entry.edits.now x.entry.types.now levels x.entry.node
-        list.entry.scratch.now list.entry.start list.entry.base list.entry.count }
+        entries.now 0 0 (length entries.now / shared_width) }
 {
     if share && tables::type_at(x.types, x.node).elements == 0 {
-        return find_type(texts, x, levels, list);
+        return find_type(texts, x, levels, entries);
     }
     None
 }
@@ -50,16 +50,16 @@ pub fn known_offset(
     texts: Texts<'_>,
     x: TypeNode<'_>,
     levels: usize,
-    list: TypeList<'_>,
+    entries: &[u32],
     share: bool,
     at: usize,
 ) -> Option<u32>
     ensures { result
         ≡ known_offset share texts.entry.chunk.now texts.entry.edits.now x.entry.types.now levels x.entry.node
-        list.entry.scratch.now list.entry.start list.entry.base list.entry.count at }
+        entries.now 0 0 (length entries.now / shared_width) at }
 {
     if at > CHUNK_LIMIT {
         return Some(0);
     }
-    find_shared(texts, x, levels, list, share)
+    find_shared(texts, x, levels, entries, share)
 }

@@ -3,7 +3,6 @@
 #![tactic(auto)]
 
 mod find;
-mod list;
 mod put;
 mod root;
 mod write;

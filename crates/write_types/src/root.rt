@@ -9,7 +9,6 @@ ghost use Rattle.write_types.specs.Room.{TypeReady};
 ghost use Rattle.write_types.specs.TypePlaced.{RootTypePlaced};
 
 use crate::find::known_offset;
-use crate::list::TypeList;
 use crate::write::{Level, write_type};
 use compare_types::TypeNode;
 use reflection::TYPE_LEVELS;
@@ -28,18 +27,16 @@ pub fn place_root_type(source: Source<'_>, w: &mut Writer<'_, '_>, share: bool) 
     let at = w.out.at;
     let node = w.node;
     let count = w.root_types;
+    // Lent whole first, so that it is known to stay as it is.
     let scratch = &mut *w.scratch;
+    let scratch = &*scratch;
     let x = TypeNode {
         types: source.types,
         node,
     };
-    let list = TypeList {
-        scratch,
-        start: ROOT_TYPES_START,
-        base: 0,
-        count,
-    };
-    if let Some(offset) = known_offset(source.texts, x, TYPE_LEVELS, list, share, at) {
+    let end = ROOT_TYPES_START + count * SHARED_WORDS;
+    let entries = &scratch[ROOT_TYPES_START..end];
+    if let Some(offset) = known_offset(source.texts, x, TYPE_LEVELS, entries, share, at) {
         w.node = compare_types::skip_type(x, TYPE_LEVELS);
         return offset;
     }
@@ -51,7 +48,7 @@ pub fn place_root_type(source: Source<'_>, w: &mut Writer<'_, '_>, share: bool) 
     let offset = write_type(source, w, level);
     if share {
         let entry = [node as u32, offset];
-        words::overwrite(w.scratch, ROOT_TYPES_START + count * SHARED_WORDS, &entry);
+        words::overwrite(w.scratch, end, &entry);
         w.root_types = count + 1;
     }
     offset

@@ -11,7 +11,6 @@ ghost use Rattle.write_types.specs.Room.{TypeReady, MembersReady};
 ghost use Rattle.write_types.specs.TypePlaced.{TypeWritten, MemberTypePlaced, MembersPlaced};
 
 use crate::find::known_offset;
-use crate::list::TypeList;
 use crate::put::put_type;
 use compare_types::TypeNode;
 use reflection::Text;
@@ -117,26 +116,25 @@ fn place_member_type(source: Source<'_>, w: &mut Writer<'_, '_>, level: Level) -
     let at = w.out.at;
     let node = w.node;
     let count = w.member_types;
+    // Lent whole first, so that it is known to stay as it is.
     let scratch = &mut *w.scratch;
+    let scratch = &*scratch;
     let x = TypeNode {
         types: source.types,
         node,
     };
-    let list = TypeList {
-        scratch,
-        start: MEMBER_TYPES_START,
-        base: level.base,
-        count,
-    };
-    if let Some(offset) = known_offset(source.texts, x, level.levels, list, true, at) {
+    let base = level.base + count;
+    let start = MEMBER_TYPES_START + level.base * SHARED_WORDS;
+    let end = MEMBER_TYPES_START + base * SHARED_WORDS;
+    let entries = &scratch[start..end];
+    if let Some(offset) = known_offset(source.texts, x, level.levels, entries, true, at) {
         w.node = compare_types::skip_type(x, level.levels);
         return offset;
     }
-    let base = level.base + count;
     w.member_types = 0;
     let offset = write_type(source, w, Level { base, ..level });
     let entry = [node as u32, offset];
-    words::overwrite(w.scratch, MEMBER_TYPES_START + base * SHARED_WORDS, &entry);
+    words::overwrite(w.scratch, end, &entry);
     w.member_types = count + 1;
     offset
 }

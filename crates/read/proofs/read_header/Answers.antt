@@ -5,7 +5,7 @@ use native.Mathlib.Omega.{arith}
 use lib.Dec.{eqb}
 use Rattle.std.specs.Prelude.{Ok}
 use Rattle.std.proofs.lemmas.Result.{err_from_is_err_and}
-use Rattle.read_types.proofs.InChunk.{not_found, text_found}
+use Rattle.read_types.proofs.InChunk.{none_found, some_found}
 use Rattle.read.specs.Header.{rd11_check}
 use Rattle.read.proofs.Header.{known_major, major_at, major_unknown, major_4, major_5, creator_is}
 use Rattle.read.proofs.Header.{refused_too_short, refused_too_long, refused_major, refused_creator, refused_rd11, headed, wide_by_stride, never_wide}
@@ -35,7 +35,7 @@ returns-in_default c =
 pub returns-in_err-creator : goal.returns-in_err-creator
 returns-in_err-creator c =
     let p = err_from_is_err_and c.from_residual.result c.from_residual.ensures.1 in
-    let bad = not_found _ c.in_err-creator.ensures in
+    let bad = none_found _ c.string_at.ensures c.in_err-creator.ensures.value in
     let known = (version (goal.at.returns-in_err-creator c).After-word_at-offset).0 in
     rw (p.1, p.2, bad.refusal)
     (refused_creator c.args.chunk.now c.if-chunk.false c.if-chunk-gt-CHUNK_LIMIT.false known
@@ -43,7 +43,7 @@ returns-in_err-creator c =
 
 pub returns-in_err-check_rd11 : goal.returns-in_err-check_rd11
 returns-in_err-check_rd11 c =
-    let found = text_found _ _ c.in_ok-creator.ensures in
+    let found = some_found _ _ c.string_at.ensures c.in_ok-creator.ensures.value in
     let p = err_from_is_err_and c.from_residual-in_err-check_rd11.result c.from_residual-in_err-check_rd11.ensures.1 in
     let v = version (goal.at.returns-in_err-check_rd11 c).After-word_at-offset in
     rw (p.1, p.2)
@@ -53,7 +53,7 @@ returns-in_err-check_rd11 c =
 
 pub returns-then-sm5-2 : goal.returns-then-sm5-2
 returns-then-sm5-2 c =
-    let found = text_found _ _ c.in_ok-creator.ensures in
+    let found = some_found _ _ c.string_at.ensures c.in_ok-creator.ensures.value in
     let v = version (goal.at.returns-then-sm5-2 c).After-word_at-offset in
     let checked : c.match-major_of.sm5 ≡ true → rd11_check c.args.chunk.now ≡ Ok tt = elim c.if-sm5.branch [
       | then-sm5+in_ok-check_rd11 w ↦ λ five. sym w.in_ok-check_rd11.ensures
@@ -65,7 +65,7 @@ returns-then-sm5-2 c =
 
 pub returns-else-sm5-2 : goal.returns-else-sm5-2
 returns-else-sm5-2 c =
-    let found = text_found _ _ c.in_ok-creator.ensures in
+    let found = some_found _ _ c.string_at.ensures c.in_ok-creator.ensures.value in
     let v = version (goal.at.returns-else-sm5-2 c).After-word_at-offset in
     headed c.args.chunk.now c.if-chunk.false c.if-chunk-gt-CHUNK_LIMIT.false v.0 _ _
     (creator_is c.args.chunk.now c.word_at-offset.ensures refl found.some)

@@ -41,11 +41,11 @@ returns-then-not-readable-clause-written c =
     (sym c.readable.ensures ∙ c.if-not-readable.true) in
     refusal-left refused.answer refused.out is
 
-pub write_chunk-at-requires-clause-sources_fit : goal.write_chunk-at-requires-clause-sources_fit
-write_chunk-at-requires-clause-sources_fit c = texts_short (readable_holds _ _ _ _ _ _ _ (sym c.readable.ensures ∙ c.if-not-readable.false))
+pub write_chunk-requires-clause-sources_fit : goal.write_chunk-requires-clause-sources_fit
+write_chunk-requires-clause-sources_fit c = texts_short (readable_holds _ _ _ _ _ _ _ (sym c.readable.ensures ∙ c.if-not-readable.false))
 
-pub write_chunk-at-requires-clause-sized : goal.write_chunk-at-requires-clause-sized
-write_chunk-at-requires-clause-sized c = tables_sized (readable_holds _ _ _ _ _ _ _ (sym c.readable.ensures ∙ c.if-not-readable.false))
+pub write_chunk-requires-clause-sized : goal.write_chunk-requires-clause-sized
+write_chunk-requires-clause-sized c = tables_sized (readable_holds _ _ _ _ _ _ _ (sym c.readable.ensures ∙ c.if-not-readable.false))
 
 pub returns-clause-written : goal.returns-clause-written
 returns-clause-written c =
@@ -53,4 +53,4 @@ returns-clause-written c =
     let held = readable_holds _ _ _ _ _ _ _ (sym c.readable.ensures ∙ c.if-not-readable.false) in
     let same = ap (λ (bytes : List ℕ). fitting (length a.out.now) (Ok bytes)) (same_canonical held) in
     let is = same ∙ sym (writable (length a.scratch.now) (length a.out.now) (omega (arith, c.if-scratch-lt-SCRATCH_WORDS.false)) held) in
-    chunk_into c.write_chunk-at.ensures.written is (c.finish.ensures.answer, search rules)
+    chunk_into c.write_chunk.ensures.written.written is (c.finish.ensures.answer, search rules)

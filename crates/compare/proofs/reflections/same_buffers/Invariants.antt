@@ -3,7 +3,7 @@
 use mathlib.Core.Path.{◌≡◌}
 use Rattle.tables.specs.Decode.{records_from}
 use Rattle.write_spec.specs.Same.{same_list, same_buffer}
-use Rattle.compare_types.specs.Same.{same_name}
+use Rattle.compare_types.specs.Same.{same_in}
 use Rattle.tables.specs.TableReflection.{root_at, first_variable, buffer_in_table}
 use Rattle.compare.proofs.Walks.{rest_equal}
 use Rattle.compare.proofs.reflections.same_buffers.Given as goal
@@ -12,7 +12,7 @@ abbrev pub invariant-loop-i : goal.invariant-loop-i
 invariant-loop-i l =
     let x = l.fn.x in
     let y = l.fn.y in
-    let same = same_name l.fn.texts.chunk.now l.fn.texts.edits.now in
+    let same = same_in l.fn.texts in
     let in_x = buffer_in_table x.buffers.now x.variables.now x.types.now in
     let in_y = buffer_in_table y.buffers.now y.variables.now y.types.now in
     (l.next.variable ≡ first_variable x.buffers.now l.i)

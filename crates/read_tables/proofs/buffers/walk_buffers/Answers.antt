@@ -27,18 +27,20 @@ entered free read many start = record {
   is_start = start ∙ in_record (λ s five wide at. word_at s (at + 8)) read;
 }
 
-pub returns-then-filling-n-clause-walked : goal.returns-then-filling-n-clause-walked
-returns-then-filling-n-clause-walked c =
-    stops c.loop.invariant.going (omega arith)
-    (buffer_full _ _ _ c.args.filling.now.capacity c.loop.filling.counts _ (rw c.loop.invariant.kept.same.capacity at c.if-filling-n.true))
+pub returns-in_err-n-clause-walked : goal.returns-in_err-n-clause-walked
+returns-in_err-n-clause-walked c =
+    let p = err_from_is_err_and c.from_residual.result c.from_residual.ensures.1 in
+    rw (p.1, p.2, c.in_err-n.ensures.refusal)
+    (stops c.loop.invariant.going (omega arith)
+    (buffer_full _ _ _ c.args.filling.now.capacity c.loop.filling.counts _ (rw c.loop.invariant.kept.same.capacity at c.in_err-n.ensures.full)))
 
 pub returns-in_err-record-clause-walked : goal.returns-in_err-record-clause-walked
 returns-in_err-record-clause-walked c =
-    let p = err_from_is_err_and c.from_residual.result c.from_residual.ensures.1 in
+    let p = err_from_is_err_and c.from_residual-in_err-record.result c.from_residual-in_err-record.ensures.1 in
     rw (p.1, p.2, c.in_err-record.ensures.refusal)
     (stops c.loop.invariant.going (omega arith)
-    (buffer_short _ _ _ c.args.filling.now.capacity c.loop.filling.counts _ (rw c.loop.invariant.kept.same.capacity at c.if-filling-n.false)
-    c.in_err-record.ensures.outside))
+    (buffer_short _ _ _ c.args.filling.now.capacity c.loop.filling.counts _ (rw c.loop.invariant.kept.same.capacity at c.in_ok-n.ensures.free)
+    (rw c.loop.invariant.chunk at c.in_err-record.ensures.outside)))
 
 pub returns-in_err-walk_variables-clause-walked : goal.returns-in_err-walk_variables-clause-walked
 returns-in_err-walk_variables-clause-walked c =
@@ -48,42 +50,45 @@ returns-in_err-walk_variables-clause-walked c =
     rw (p.1, p.2)
     (stops c.loop.invariant.going (omega arith) {after = buffers_in new.buffers.now new.variables.now new.types.now}
     (buffer_refused
-    (entered (rw same.capacity at c.if-filling-n.false) c.in_ok-record.ensures c.word-in-loop.ensures c.word.ensures)
-    _ _ _ _ _ _ (rw same.capacity at c.in_err-walk_variables.ensures.walked)))
+    (entered (rw same.capacity at c.in_ok-n.ensures.free) (rw c.loop.invariant.chunk at c.in_ok-record.ensures.read) c.word-in-loop.ensures c.word.ensures)
+    _ _ _ _ _ _
+    (rw (same.capacity, c.in_ok-n.ensures.one_more, c.in_ok-record.ensures.chunk, c.loop.invariant.chunk) at c.in_err-walk_variables.ensures.walked)))
 
 pub returns-in_err-name-clause-walked : goal.returns-in_err-name-clause-walked
 returns-in_err-name-clause-walked c =
     let p = err_from_is_err_and c.from_residual-in_err-name.result c.from_residual-in_err-name.ensures.1 in
     let same = c.loop.invariant.kept.same in
-    let read = c.in_ok-record.ensures in
+    let read = rw c.loop.invariant.chunk at c.in_ok-record.ensures.read in
     let bad = not_found _ c.in_err-name.ensures in
     let new = c.walk_variables.new.filling in
     rw (p.1, p.2, bad.refusal)
     (stops c.loop.invariant.going (omega arith) {after = buffers_in new.buffers.now new.variables.now new.types.now}
     (buffer_named_badly
-    (entered (rw same.capacity at c.if-filling-n.false) read c.word-in-loop.ensures c.word.ensures)
-    _ _ _ _ _ _ (rw same.capacity at c.in_ok-walk_variables.ensures.walked)
+    (entered (rw same.capacity at c.in_ok-n.ensures.free) read c.word-in-loop.ensures c.word.ensures)
+    _ _ _ _ _ _ (rw (same.capacity, c.in_ok-n.ensures.one_more, c.in_ok-record.ensures.chunk, c.loop.invariant.chunk) at c.in_ok-walk_variables.ensures.walked)
     (sym (in_record (λ s five wide at. cstring_at s (word_at s at)) read) ∙ bad.none)))
 
 pub loop-preserved : goal.loop-preserved
 loop-preserved c =
     let kept = c.loop.invariant.kept in
     let same = kept.same in
-    let read = c.in_ok-record.ensures in
-    let free = rw same.capacity at c.if-filling-n.false in
-    let walked = rw same.capacity at c.in_ok-walk_variables.ensures.walked in
+    let read = rw c.loop.invariant.chunk at c.in_ok-record.ensures.read in
+    let free = rw same.capacity at c.in_ok-n.ensures.free in
+    let walked =
+    rw (same.capacity, c.in_ok-n.ensures.one_more, c.in_ok-record.ensures.chunk, c.loop.invariant.chunk) at c.in_ok-walk_variables.ensures.walked in
     let then = c.in_ok-walk_variables.ensures.kept in
     let found = text_found _ _ c.in_ok-name.ensures in
     record {
-      going = goes_on c.loop.invariant.going (omega arith)
+      going = rw c.in_ok-record.ensures.at (goes_on c.loop.invariant.going (omega arith)
           (buffer_filled
           (entered free read c.word-in-loop.ensures c.word.ensures)
           _ _ _ _ _ _ walked (rw same.capacity at c.loop.filling.buffers_fit)
           (sym (in_record (λ s five wide at. cstring_at s (word_at s at)) read) ∙ found.some) found.is
           (c.buffer_record.ensures ∙ in_record (λ s five wide at. buffer_record_in_chunk s at c.in_ok-name.name) read)
-          (rw then.buffers at c.put_buffer.ensures))
+          (rw (then.buffers, c.in_ok-n.ensures.is) at c.put_buffer.ensures))
           (buffers_grown c.args.filling.now.capacity c.loop.invariant.going.grew free walked.grew)
-          refl (omega arith);
+          refl (omega arith));
+      chunk = c.in_ok-record.ensures.chunk ∙ c.loop.invariant.chunk;
       kept = record {
         same = record {
           bindings = then.same.bindings ∙ same.bindings;

@@ -1,4 +1,5 @@
 -- `walk_buffers` meets its contract. The loop's law is Going; each way out, and each turn, is what reading one buffer appends.
+use mathlib.Core.Path.{◌≡◌}
 use Prim.Native.Nat.{◌-◌}
 use Rattle.reflection.specs.Strides.{buffer_stride}
 use Rattle.read_spec.specs.Read.{read_buffer}
@@ -8,9 +9,11 @@ use Rattle.read_tables.proofs.buffers.walk_buffers.Given as goal
 
 abbrev pub invariant-loop : goal.invariant-loop
 invariant-loop l = record {
-  going : Going append_buffer (read_buffer l.buffers.chunk.bytes.now l.buffers.chunk.sm5) buffer_stride l.buffers.first l.buffers.count
+  going : Going append_buffer (read_buffer l.initial.buffers.chunk.bytes.now l.initial.buffers.chunk.sm5)
+      buffer_stride l.initial.buffers.at l.initial.buffers.count
       l.initial.filling.capacity (up_to_buffers l.initial.filling.capacity l.initial.filling.counts) l.initial.filling.counts
       (buffers_in l.initial.filling.buffers.now l.initial.filling.variables.now l.initial.filling.types.now)
-      (buffers_in l.filling.buffers.now l.filling.variables.now l.filling.types.now) l.filling.counts l.at (l.buffers.count - l.counter);
+      (buffers_in l.filling.buffers.now l.filling.variables.now l.filling.types.now) l.filling.counts l.buffers.at (l.initial.buffers.count - l.counter);
+  chunk : l.buffers.chunk ≡ l.initial.buffers.chunk;
   kept : KeptBindings l.initial.filling l.filling;
 }

@@ -1,6 +1,4 @@
-use Rattle.std.specs.Prelude.{Option}
 use Rattle.std.proofs.lemmas.Result.{err_from_is_err_and}
-use Rattle.text.specs.declared.Span.{Span}
 use mathlib.Core.List.{List}
 use Prim.Native.Nat.{ℕ, ◌+◌, ◌<◌}
 use mathlib.Core.Path.{◌≡◌, sym, ap, ◌∙◌}
@@ -18,7 +16,7 @@ use Rattle.read_types.specs.declared.chunk.Chunk.{Chunk}
 use Rattle.read_types.specs.declared.chunk.Record.{Record}
 use Rattle.read_types.specs.Chunk.{RecordAt}
 use Rattle.read_types.specs.Walked.{HasRoom}
-use Rattle.read_types.proofs.InChunk.{FoundText, not_found, text_found, in_record}
+use Rattle.read_types.proofs.InChunk.{FoundText, not_found, text_found, none_found, some_found, in_record}
 use Rattle.read_tables.specs.Variables.{variable_record_in_chunk}
 use Rattle.read_tables.proofs.Loop.{ends, stops, goes_on}
 use Rattle.read_tables.proofs.Grown.{variables_grown}
@@ -27,29 +25,29 @@ use Rattle.read_tables.proofs.OneVariable.{VariableWritten, variable_refused, va
 use Rattle.read_tables.proofs.variables.walk_variables.Goals as goal
 
 -- The default that the definition has, at the variable's place.
-default_in : {chunk : Chunk} {r : Record} {at size : ℕ} {default : Option Span} → RecordAt chunk at size r
-    → default ≡ default_at r.chunk.bytes.now (word_at r.chunk.bytes.now (r.at + 20)) (word_at r.chunk.bytes.now (r.at + 8))
-    → default_at chunk.bytes.now (word_at chunk.bytes.now (at + 20)) (word_at chunk.bytes.now (at + 8)) ≡ default
-default_in read is = sym (is ∙ in_record (λ s five wide at. default_at s (word_at s (at + 20)) (word_at s (at + 8))) read)
+default_in : {chunk : Chunk} {r : Record} {at size : ℕ} → RecordAt chunk at size r
+    → default_at chunk.bytes.now (word_at chunk.bytes.now (at + 20)) (word_at chunk.bytes.now (at + 8))
+    ≡ default_at r.chunk.bytes.now (word_at r.chunk.bytes.now (r.at + 20)) (word_at r.chunk.bytes.now (r.at + 8))
+default_in read = sym (in_record (λ s five wide at. default_at s (word_at s (at + 20)) (word_at s (at + 8))) read)
 
 -- All that is known of the variable once its record was written: it passed its tests, and its type lies at `below`.
 written : {chunk : Chunk} {r : Record} {at stride below : ℕ} {capacity n : Counts} {variables variables₁ : List ℕ}
-    {default : Option Span} {name default_text : Text} {variable : CBufferVariable}
+    {name default_text : Text} {variable : CBufferVariable}
     → HasRoom variable_width capacity.variables n.variables variables → n.variables < capacity.variables
     → stride ≡ variable_stride chunk.sm5 → RecordAt chunk at stride r
-    → default ≡ default_at r.chunk.bytes.now (word_at r.chunk.bytes.now (r.at + 20)) (word_at r.chunk.bytes.now (r.at + 8)) → FoundText default default_text
+    → FoundText (default_at r.chunk.bytes.now (word_at r.chunk.bytes.now (r.at + 20)) (word_at r.chunk.bytes.now (r.at + 8))) default_text
     → FoundText (cstring_at r.chunk.bytes.now (word_at r.chunk.bytes.now r.at)) name
     → variable ≡ variable_record_in_chunk r.chunk.bytes.now r.chunk.sm5 r.at name default_text
     → variables₁ ≡ put_record variable_width variables n.variables (variable_words_in_table variable)
     → below ≡ word_at r.chunk.bytes.now (r.at + 16)
     → VariableWritten chunk.bytes.now chunk.sm5 at capacity n variables variables₁ below
-written {chunk} {at = at} {capacity = capacity} {n} {variables} {name = name} {default_text} room free is_stride read is_default default found is put below =
+written {chunk} {at = at} {capacity = capacity} {n} {variables} {name = name} {default_text} room free is_stride read default found is put below =
     record {
       free = free;
       fits = sym (ap (inside (length chunk.bytes.now) at) is_stride) ∙ read.fits;
       dplace = default.place;
       dlength = default.k;
-      default = default_in read is_default ∙ default.some;
+      default = default_in read ∙ default.some;
       place = found.place;
       k = found.k;
       found = sym (in_record (λ s five wide at. cstring_at s (word_at s at)) read) ∙ found.some;
@@ -58,40 +56,42 @@ written {chunk} {at = at} {capacity = capacity} {n} {variables} {name = name} {d
       is_below = below ∙ in_record (λ s five wide at. word_at s (at + 16)) read;
     }
 
-pub returns-then-filling-n-clause-walked : goal.returns-then-filling-n-clause-walked
-returns-then-filling-n-clause-walked c =
-    stops c.loop.invariant.going (omega arith)
-    (variable_full _ _ _ c.args.filling.now.capacity c.loop.filling.counts _ (rw c.loop.invariant.kept.same.capacity at c.if-filling-n.true))
+pub returns-in_err-n-clause-walked : goal.returns-in_err-n-clause-walked
+returns-in_err-n-clause-walked c =
+    let p = err_from_is_err_and c.from_residual.result c.from_residual.ensures.1 in
+    rw (p.1, p.2, c.in_err-n.ensures.refusal)
+    (stops c.loop.invariant.going (omega arith)
+    (variable_full _ _ _ c.args.filling.now.capacity c.loop.filling.counts _ (rw c.loop.invariant.kept.same.capacity at c.in_err-n.ensures.full)))
 
 pub returns-in_err-record-clause-walked : goal.returns-in_err-record-clause-walked
 returns-in_err-record-clause-walked c =
-    let p = err_from_is_err_and c.from_residual.result c.from_residual.ensures.1 in
+    let p = err_from_is_err_and c.from_residual-in_err-record.result c.from_residual-in_err-record.ensures.1 in
     rw (p.1, p.2, c.in_err-record.ensures.refusal)
     (stops c.loop.invariant.going (omega arith)
-    (variable_short _ _ _ c.args.filling.now.capacity c.loop.filling.counts _ (rw c.loop.invariant.kept.same.capacity at c.if-filling-n.false)
-    (cc (c.in_err-record.ensures.outside, c.variable_stride-stride.ensures))))
+    (variable_short _ _ _ c.args.filling.now.capacity c.loop.filling.counts _ (rw c.loop.invariant.kept.same.capacity at c.in_ok-n.ensures.free)
+    (cc (rw c.loop.invariant.chunk at c.in_err-record.ensures.outside, c.variable_stride-stride.ensures))))
 
 pub returns-in_err-default-clause-walked : goal.returns-in_err-default-clause-walked
 returns-in_err-default-clause-walked c =
     let p = err_from_is_err_and c.from_residual-in_err-default.result c.from_residual-in_err-default.ensures.1 in
-    let read = c.in_ok-record.ensures in
-    let bad = not_found _ c.in_err-default.ensures in
+    let read = rw c.loop.invariant.chunk at c.in_ok-record.ensures.read in
+    let bad = none_found _ c.default_of.ensures c.in_err-default.ensures.value in
     rw (p.1, p.2, bad.refusal)
     (stops c.loop.invariant.going (omega arith)
-    (variable_default_outside _ _ _ c.args.filling.now.capacity c.loop.filling.counts _ (rw c.loop.invariant.kept.same.capacity at c.if-filling-n.false)
-    (cc (read.fits, c.variable_stride-stride.ensures)) (default_in read c.default_of.ensures.is ∙ bad.none)))
+    (variable_default_outside _ _ _ c.args.filling.now.capacity c.loop.filling.counts _ (rw c.loop.invariant.kept.same.capacity at c.in_ok-n.ensures.free)
+    (cc (read.fits, c.variable_stride-stride.ensures)) (default_in read ∙ bad.none)))
 
 pub returns-in_err-name-clause-walked : goal.returns-in_err-name-clause-walked
 returns-in_err-name-clause-walked c =
     let p = err_from_is_err_and c.from_residual-in_err-name.result c.from_residual-in_err-name.ensures.1 in
-    let read = c.in_ok-record.ensures in
-    let default = text_found _ _ c.in_ok-default.ensures in
+    let read = rw c.loop.invariant.chunk at c.in_ok-record.ensures.read in
+    let default = some_found _ _ c.default_of.ensures c.in_ok-default.ensures.value in
     let bad = not_found _ c.in_err-name.ensures in
     rw (p.1, p.2, bad.refusal)
     (stops c.loop.invariant.going (omega arith)
-    (variable_named_badly _ _ _ c.args.filling.now.capacity c.loop.filling.counts _ (rw c.loop.invariant.kept.same.capacity at c.if-filling-n.false)
+    (variable_named_badly _ _ _ c.args.filling.now.capacity c.loop.filling.counts _ (rw c.loop.invariant.kept.same.capacity at c.in_ok-n.ensures.free)
     (cc (read.fits, c.variable_stride-stride.ensures))
-    _ _ (default_in read c.default_of.ensures.is ∙ default.some)
+    _ _ (default_in read ∙ default.some)
     (sym (in_record (λ s five wide at. cstring_at s (word_at s at)) read) ∙ bad.none)))
 
 pub returns-in_err-walk_root-clause-walked : goal.returns-in_err-walk_root-clause-walked
@@ -101,27 +101,29 @@ returns-in_err-walk_root-clause-walked c =
     rw (p.1, p.2)
     (stops c.loop.invariant.going (omega arith)
     (variable_refused
-    (written (rw same.capacity at c.loop.filling.variables_fit) (rw same.capacity at c.if-filling-n.false) c.variable_stride-stride.ensures
-    c.in_ok-record.ensures c.default_of.ensures.is (text_found _ _ c.in_ok-default.ensures) (text_found _ _ c.in_ok-name.ensures)
-    c.variable_record.ensures c.put_variable.ensures c.word.ensures)
-    _ _ (rw same.capacity at c.in_err-walk_root.ensures.walked)))
+    (written (rw same.capacity at c.loop.filling.variables_fit) (rw same.capacity at c.in_ok-n.ensures.free) c.variable_stride-stride.ensures
+    (rw c.loop.invariant.chunk at c.in_ok-record.ensures.read) (some_found _ _ c.default_of.ensures c.in_ok-default.ensures.value)
+    (text_found _ _ c.in_ok-name.ensures) c.variable_record.ensures (rw c.in_ok-n.ensures.is at c.put_variable.ensures) c.word.ensures)
+    _ _ (rw (same.capacity, c.in_ok-n.ensures.one_more, c.in_ok-record.ensures.chunk, c.loop.invariant.chunk) at c.in_err-walk_root.ensures.walked)))
 
 pub loop-preserved : goal.loop-preserved
 loop-preserved c =
     let kept = c.loop.invariant.kept in
     let same = kept.same in
-    let free = rw same.capacity at c.if-filling-n.false in
-    let walked = rw same.capacity at c.in_ok-walk_root.ensures.walked in
+    let free = rw same.capacity at c.in_ok-n.ensures.free in
+    let walked = rw (same.capacity, c.in_ok-n.ensures.one_more, c.in_ok-record.ensures.chunk, c.loop.invariant.chunk) at c.in_ok-walk_root.ensures.walked in
+    let put = rw c.in_ok-n.ensures.is at c.put_variable.ensures in
     let then = c.in_ok-walk_root.ensures.kept in
     record {
-      going = goes_on c.loop.invariant.going (omega arith)
+      going = rw c.in_ok-record.ensures.at (goes_on c.loop.invariant.going (omega arith)
           (variable_filled
           (written (rw same.capacity at c.loop.filling.variables_fit) free c.variable_stride-stride.ensures
-          c.in_ok-record.ensures c.default_of.ensures.is (text_found _ _ c.in_ok-default.ensures) (text_found _ _ c.in_ok-name.ensures)
-          c.variable_record.ensures (then.variables ∙ c.put_variable.ensures) c.word.ensures)
+          (rw c.loop.invariant.chunk at c.in_ok-record.ensures.read) (some_found _ _ c.default_of.ensures c.in_ok-default.ensures.value)
+          (text_found _ _ c.in_ok-name.ensures) c.variable_record.ensures (then.variables ∙ put) c.word.ensures)
           _ _ walked)
           (variables_grown c.args.filling.now.capacity c.loop.invariant.going.grew free walked.grew)
-          c.variable_stride-stride.ensures (omega arith);
+          c.variable_stride-stride.ensures (omega arith));
+      chunk = c.in_ok-record.ensures.chunk ∙ c.loop.invariant.chunk;
       kept = record {
         same = record {
           bindings = then.same.bindings ∙ same.bindings;

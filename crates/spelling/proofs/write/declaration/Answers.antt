@@ -4,5 +4,5 @@ use Rattle.spelling.proofs.write.declaration.Goals as goal
 
 pub returns : goal.returns
 returns c =
-    let done = c.answer.ensures.answer _ _ refl c.write_declaration-written.ensures.text in
+    let done = c.answer.ensures.answer _ _ refl c.write_declaration-written.ensures in
     record { answer = done.answer; out = search rules }

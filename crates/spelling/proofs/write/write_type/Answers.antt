@@ -1,7 +1,9 @@
 -- `write_type` meets its contract: the tests in the order of the definition, then the spelling.
-use mathlib.Core.Path.{refl, sym, ap, ◌∙◌}
+use mathlib.Core.List.{[]}
+use mathlib.Core.Path.{sym, ap, ◌∙◌}
 use native.Mathlib.Omega.{arith}
 use lib.ListN.{length}
+use Rattle.text_output.proofs.Appended.{appended_none}
 use Rattle.text_output.proofs.NameLength.{name_at_most}
 use Rattle.spelling.specs.Spelling.{type_spelling}
 use Rattle.spelling.proofs.WriteRefusals.{same_fit, type_name_unprintable, type_fields_unfit, type_by_spelling, put_or_refused}
@@ -13,10 +15,12 @@ returns-then-not-printable-clause-text c =
     let a = c.args in
     elim c.then-not-printable.branch [
       | then-not-printable-via-then-not-printable w ↦
-          (type_name_unprintable a.texts.chunk.now a.texts.edits.now a.t (sym c.printable.ensures ∙ w.if-not-printable.true), refl)
+          let unprintable = type_name_unprintable a.texts.chunk.now a.texts.edits.now a.t (sym c.printable.ensures ∙ w.if-not-printable.true) in
+          record { bytes = []; is = unprintable; put = appended_none a.out.now }
       | then-not-printable-via-else-not-printable+then-not-fits_u16 w ↦
           let unfit = same_fit a.t ∙ sym w.fits_u16.ensures ∙ w.if-not-fits_u16.true in
-          (type_fields_unfit a.texts.chunk.now a.texts.edits.now a.t (sym c.printable.ensures ∙ w.if-not-printable.false) unfit, refl)
+          let unfit = type_fields_unfit a.texts.chunk.now a.texts.edits.now a.t (sym c.printable.ensures ∙ w.if-not-printable.false) unfit in
+          record { bytes = []; is = unfit; put = appended_none a.out.now }
     ]
 
 pub returns-clause-text : goal.returns-clause-text

@@ -1,7 +1,6 @@
 -- `place_chunk` meets its contract: what its calls did in turn is the layout of what the tables hold, and there is room at each call.
-use mathlib.Core.Path.{sym, ap, subst, ◌∙◌}
+use mathlib.Core.Path.{ap, ◌∙◌}
 use native.Mathlib.Omega.{arith}
-use Rattle.write_tables.specs.BuffersPlaced.{BuffersReady}
 use Rattle.write_tables.proofs.Advance.{moved_to}
 use Rattle.write_tables.proofs.AllChunk.{names_ready, buffers_ready, header_near, chunk_written}
 use Rattle.write_tables.proofs.Writers.{still_beginning, moved_same}
@@ -23,14 +22,9 @@ pub place_buffers-buffers-requires : goal.place_buffers-buffers-requires
 place_buffers-buffers-requires c =
     let named = c.place.ensures in
     let written = c.put_binding_records.ensures in
-    record {
-      ready =
-          subst (λ s. BuffersReady c.args.texts.chunk.now c.args.texts.edits.now c.args.r.buffers.now c.args.r.types.now c.args.r.def.buffer_count
-          c.place.new.w.out.now.at s) (sym written.scratch)
-          (buffers_ready c.is_sm5-sm5.result c.is_wide-wide.result c.requires.sized c.begin_pools.ensures c.header_size-start.ensures c.binding_size.ensures
-          c.args.r.bindings.now named.placed);
-      no_types = moved_same written.same c.place.new.w.out.now.at ∙ still_beginning named.same (ap (moved_to _) c.requires.no_types);
-    }
+    buffers_ready c.is_sm5-sm5.result c.is_wide-wide.result c.requires.sized c.begin_pools.ensures c.header_size-start.ensures c.binding_size.ensures
+    c.args.r.bindings.now named.placed
+    (moved_same written.same c.place.new.w.out.now.at ∙ still_beginning named.same (ap (moved_to _) c.requires.no_types)) written.scratch
 
 pub returns-clause-written : goal.returns-clause-written
 returns-clause-written c =

@@ -12,7 +12,7 @@ place_inner_name-name-requires-clause-at_le_farthest_offset c = (name_room c.req
 pub place_root_type-kind-requires-clause-type_ready : goal.place_root_type-kind-requires-clause-type_ready
 place_root_type-kind-requires-clause-type_ready c =
     let named = c.place_inner_name-name.ensures in
-    type_ready c.requires named.placed c.args.source.short (cursor_moved named.same)
+    type_ready c.requires named.placed (cursor_moved named.same)
 
 pub place_default-default-requires-clause-scratch_bound : goal.place_default-default-requires-clause-scratch_bound
 place_default-default-requires-clause-scratch_bound c =

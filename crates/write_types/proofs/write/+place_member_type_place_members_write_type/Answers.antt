@@ -5,7 +5,7 @@ use native.Mathlib.Omega.{arith}
 use Rattle.write_texts.specs.Scratch.{region}
 use Rattle.write_types.proofs.Ready.{node_early, name_room, entry_room, down_ready}
 use Rattle.write_types.proofs.Handed.{lent_then, type_ready_named, type_placed_named, members_ready_named, members_placed_named}
-use Rattle.write_types.proofs.MemberType.{member_known, member_new, member_written}
+use Rattle.write_types.proofs.MemberType.{known_here, member_known, member_new, member_written}
 use Rattle.write_types.proofs.Members.{starts, ends, turn, type_ready, goes_on}
 use Rattle.write_types.proofs.Writing.{members_ready, members_done, type_written}
 use Rattle.write_types.proofs.write.+place_member_type_place_members_write_type.Goals as goal
@@ -14,18 +14,33 @@ use Rattle.write_types.proofs.write.+place_member_type_place_members_write_type.
 pub place_member_type-invariant_of-x : goal.place_member_type-invariant_of-x
 place_member_type-invariant_of-x t c = omega (arith, node_early c.requires)
 
-pub place_member_type-invariant_of-list : goal.place_member_type-invariant_of-list
-place_member_type-invariant_of-list t c = omega (arith, entry_room c.requires, c.requires.ready.long)
+pub place_member_type-overflow_mul-start : goal.place_member_type-overflow_mul-start
+place_member_type-overflow_mul-start t c = omega (arith, entry_room c.requires)
+
+pub place_member_type-overflow_add-start : goal.place_member_type-overflow_add-start
+place_member_type-overflow_add-start t c = omega (arith, entry_room c.requires)
+
+pub place_member_type-overflow_mul-end : goal.place_member_type-overflow_mul-end
+place_member_type-overflow_mul-end t c = omega (arith, entry_room c.requires)
+
+pub place_member_type-overflow_add-end : goal.place_member_type-overflow_add-end
+place_member_type-overflow_add-end t c = omega (arith, entry_room c.requires)
+
+pub place_member_type-offset_bounds-scratch-start : goal.place_member_type-offset_bounds-scratch-start
+place_member_type-offset_bounds-scratch-start t c = omega (arith, entry_room c.requires)
+
+pub place_member_type-slice_bounds-entries-end : goal.place_member_type-slice_bounds-entries-end
+place_member_type-slice_bounds-entries-end t c = omega (arith, entry_room c.requires, c.requires.ready.long)
 
 pub place_member_type-returns-in-Some-clause-placed : goal.place_member_type-returns-in-Some-clause-placed
-place_member_type-returns-in-Some-clause-placed t c = member_known c.requires c.known_offset.ensures c.in-Some.is c.skip_type-w.ensures
+place_member_type-returns-in-Some-clause-placed t c = member_known c.requires (known_here c.requires c.known_offset.ensures) c.in-Some.is c.skip_type-w.ensures
 
 pub place_member_type-write_type-offset-requires : goal.place_member_type-write_type-offset-requires
 place_member_type-write_type-offset-requires t c = (omega (arith, c.decreases), down_ready c.requires)
 
 pub place_member_type-returns-clause-placed : goal.place_member_type-returns-clause-placed
 place_member_type-returns-clause-placed t c =
-    member_written c.requires _ refl (member_new c.requires c.known_offset.ensures c.in_default.is) c.write_type-offset.ensures.placed
+    member_written c.requires _ refl (member_new c.requires (known_here c.requires c.known_offset.ensures) c.in_default.is) c.write_type-offset.ensures.placed
     c.overwrite.ensures
 
 -- `place_members`: each turn of the loop places a member and pushes its record.
