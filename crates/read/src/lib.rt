@@ -8,7 +8,8 @@ ghost use Rattle.read.specs.Parsed.{read_in, TablesParsed};
 ghost use Rattle.read.specs.Filled.{IsRoom, Filled, SameLengths};
 
 use read_spec::Counts;
-use read_types::{Chunk, Filling, Records};
+use read_tables::BindingFilling;
+use read_types::{Chunk, Records, TypeFilling};
 use reflection::{
     BINDING_ROOM, BINDING_WORDS, BUFFER_ROOM, BUFFER_WORDS, CHUNK_LIMIT, HEADER_SIZE,
     RD11_HEADER_SIZE, Rd11Header, Rd11Words, Refusal, ResourceDef, TYPE_LEVELS, TYPE_ROOM,
@@ -96,15 +97,6 @@ fn read_tables(bytes: &[u8], tables: &mut Tables<'_>) -> Result<ResourceDef, Ref
 {
     let header = read_header(bytes)?;
     let capacity = capacity_of(tables);
-    let mut filling = Filling {
-        bindings: &mut *tables.bindings,
-        buffers: &mut *tables.buffers,
-        variables: &mut *tables.variables,
-        types: &mut *tables.types,
-        capacity,
-        counts: Counts::default(),
-        path: [0; TYPE_LEVELS],
-    };
     let chunk = Chunk {
         bytes,
         sm5: header.sm5,
@@ -115,14 +107,25 @@ fn read_tables(bytes: &[u8], tables: &mut Tables<'_>) -> Result<ResourceDef, Ref
         at: words::word_at(bytes, 12) as usize,
         count: words::word_at(bytes, 8),
     };
-    read_tables::walk_bindings(&mut filling, bindings)?;
+    let mut binding_filling = BindingFilling {
+        bindings: &mut *tables.bindings,
+        capacity,
+        counts: Counts::default(),
+    };
+    read_tables::walk_bindings(&mut binding_filling, bindings)?;
     let buffers = Records {
         chunk,
         at: words::word_at(bytes, 4) as usize,
         count: words::word_at(bytes, 0),
     };
-    read_tables::walk_buffers(&mut filling, buffers)?;
-    let counts = filling.counts;
+    let mut type_filling = TypeFilling {
+        types: &mut *tables.types,
+        capacity,
+        counts: binding_filling.counts,
+        path: [0; TYPE_LEVELS],
+    };
+    read_tables::walk_buffers(&mut type_filling, tables.buffers, tables.variables, buffers)?;
+    let counts = type_filling.counts;
     Ok(ResourceDef {
         target_version: words::word_at(bytes, 16),
         compile_flags: words::word_at(bytes, 20),

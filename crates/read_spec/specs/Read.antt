@@ -1,4 +1,4 @@
--- Reading an RDEF chunk: document 01, "Walk order", to the letter. The numbers are those of its table of refusals.
+-- Reading an RDEF chunk: document 01, "Walk order", to the letter. The refusals are those of its table.
 use Rattle.reflection.specs.Outcome.{Outcome}
 use Rattle.text.specs.declared.Span.{Span}
 use Rattle.reflection.specs.declared.refusal.Refusal.TheVariants.{ChunkTooShort, ChunkTooLong, BadVersion, BadCreator, Rd11Missing, BadRd11}

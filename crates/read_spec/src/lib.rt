@@ -1,5 +1,5 @@
-// The definition of reading stands in specs/; the code that meets it is in read_types, read_tables and read, whose walks answer alike: how many records
-// each table then has, or why they refused.
+// The definition of reading stands in specs/; the code that meets it is in read_types, read_tables and read, whose walks answer alike: why they refused,
+// if they did; how many records each table has stands in what they fill.
 #![tactic(auto)]
 
 // A number of records for each table: how many it has, or how many it can take.

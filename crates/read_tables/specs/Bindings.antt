@@ -2,7 +2,7 @@
 -- The walk of the bindings: what it leaves.
 use Rattle.reflection.specs.Outcome.{Outcome}
 use Rattle.reflection.specs.declared.refusal.Refusal.TheVariants.{BadInputType, BadDimension, BadBindingFlags}
-use Rattle.std.specs.Prelude.{◌≡◌, Bool, true, false, Ok, Err, List, ◌++◌, ℕ, ◌+◌, ◌*◌, take}
+use Rattle.std.specs.Prelude.{◌≡◌, Bool, true, false, Ok, Err, List, ◌++◌, ℕ, ◌+◌, ◌*◌, length, take}
 use Rattle.words.specs.Words.{word_at}
 use Rattle.codes.specs.Table.{known}
 use Rattle.codes.specs.Microsoft.{input_types, srv_dimensions}
@@ -16,8 +16,7 @@ use Rattle.read_spec.specs.declared.Counts.{Counts}
 use Rattle.read_spec.specs.Step.{Room}
 use Rattle.read_spec.specs.Read.{read_binding, binding_stride}
 use Rattle.read_types.specs.Progress.{Progress, many_progress}
-use Rattle.read_types.specs.Filling.{SameFilling}
-use Rattle.read_types.specs.declared.filling.Filling.{Filling}
+use Rattle.read_tables.specs.declared.filling.BindingFilling.{BindingFilling}
 
 -- A binding's record after the words w.
 unfoldable pub append_binding : ResourceBinding Text → List ℕ → List ℕ
@@ -46,9 +45,11 @@ bindings_in bindings n = take (n.bindings * binding_width) bindings
 abbrev pub up_to_bindings : Counts → Counts → Counts
 up_to_bindings capacity n = record { bindings = capacity.bindings; buffers = n.buffers; variables = n.variables; types = n.types }
 
--- The bindings' table alone was written.
-pub record OnlyBindings (before after : Filling) : Type 0 where
-  pub same : SameFilling before after
-  pub buffers : after.buffers.now ≡ before.buffers.now
-  pub variables : after.variables.now ≡ before.variables.now
-  pub types : after.types.now ≡ before.types.now
+-- The table is still the one that was lent, as long as it was; all tables can take as many records, and the others have as many.
+pub record OnlyBindings (before after : BindingFilling) : Type 0 where
+  pub bindings : after.bindings.ghost_name ≡ before.bindings.ghost_name
+  pub bindings_long : length after.bindings.now ≡ length before.bindings.now
+  pub capacity : after.capacity ≡ before.capacity
+  pub buffers : after.counts.buffers ≡ before.counts.buffers
+  pub variables : after.counts.variables ≡ before.counts.variables
+  pub types : after.counts.types ≡ before.counts.types

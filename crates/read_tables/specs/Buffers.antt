@@ -1,8 +1,8 @@
 -- Vocabulary of internal contracts: no contract of an exported function and no demand cites it.
 -- The walk of the buffers, each with its variables and their types: what it leaves.
-use Rattle.std.specs.Prelude.{◌≡◌, Bool, List, ◌++◌, ℕ, ◌+◌, ◌*◌, take}
+use Rattle.std.specs.Prelude.{◌≡◌, Bool, List, ◌++◌, ℕ, ◌+◌, ◌*◌, length, take}
 use Rattle.words.specs.Words.{word_at}
-use Rattle.reflection.specs.Limits.{buffer_width}
+use Rattle.reflection.specs.Limits.{buffer_width, variable_width}
 use Rattle.reflection.specs.Strides.{buffer_stride}
 use Rattle.reflection.specs.declared.Text.{Text}
 use Rattle.reflection.specs.declared.CBufferDef.{CBufferDef as BufferRecord}
@@ -13,8 +13,8 @@ use Rattle.read_spec.specs.declared.Counts.{Counts}
 use Rattle.read_spec.specs.Step.{Room}
 use Rattle.read_spec.specs.Read.{read_buffer}
 use Rattle.read_types.specs.Progress.{Progress, append_all, many_progress}
-use Rattle.read_types.specs.Filling.{SameFilling}
-use Rattle.read_types.specs.declared.filling.Filling.{Filling}
+use Rattle.read_types.specs.Walked.{HasRoom}
+use Rattle.read_types.specs.declared.filling.TypeFilling.{TypeFilling}
 use Rattle.read_tables.specs.Variables.{append_variable, variables_in}
 
 -- The buffers' words, the variables' and the nodes'.
@@ -47,7 +47,12 @@ buffers_in buffers variables types n = (take (n.buffers * buffer_width) buffers,
 abbrev pub up_to_buffers : Counts → Counts → Counts
 up_to_buffers capacity n = record { bindings = n.bindings; buffers = capacity.buffers; variables = capacity.variables; types = capacity.types }
 
--- All tables but the bindings' were written.
-pub record KeptBindings (before after : Filling) : Type 0 where
-  pub same : SameFilling before after
-  pub bindings : after.bindings.now ≡ before.bindings.now
+-- The types' table is still the one that was lent, as long as it was; all tables can take as many records, and the bindings are as many. The tables of
+-- the buffers and the variables, which hold `buffers` and `variables` now, have room for those that they have.
+pub record KeptBindings (before after : TypeFilling) (buffers variables : List ℕ) : Type 0 where
+  pub types : after.types.ghost_name ≡ before.types.ghost_name
+  pub types_long : length after.types.now ≡ length before.types.now
+  pub capacity : after.capacity ≡ before.capacity
+  pub bindings : after.counts.bindings ≡ before.counts.bindings
+  pub buffers_fit : HasRoom buffer_width after.capacity.buffers after.counts.buffers buffers
+  pub variables_fit : HasRoom variable_width after.capacity.variables after.counts.variables variables

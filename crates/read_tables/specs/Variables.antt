@@ -1,6 +1,6 @@
 -- Vocabulary of internal contracts: no contract of an exported function and no demand cites it.
 -- The walk of a buffer's variables, each with the nodes of its type: what it leaves.
-use Rattle.std.specs.Prelude.{◌≡◌, Bool, List, ◌++◌, ℕ, ◌+◌, ◌*◌, take}
+use Rattle.std.specs.Prelude.{◌≡◌, Bool, List, ◌++◌, ℕ, ◌+◌, ◌*◌, length, take}
 use Rattle.words.specs.Words.{word_at}
 use Rattle.reflection.specs.Limits.{variable_width}
 use Rattle.reflection.specs.declared.Text.{Text}
@@ -14,8 +14,8 @@ use Rattle.read_spec.specs.Step.{Room}
 use Rattle.read_spec.specs.Read.{read_variable, variable_stride}
 use Rattle.words.specs.Words.{word_if}
 use Rattle.read_types.specs.Progress.{Progress, many_progress}
-use Rattle.read_types.specs.Filling.{SameFilling}
-use Rattle.read_types.specs.declared.filling.Filling.{Filling}
+use Rattle.read_types.specs.Walked.{HasRoom}
+use Rattle.read_types.specs.declared.filling.TypeFilling.{TypeFilling}
 use Rattle.read_types.specs.Walk.{append_type, nodes_in}
 
 -- A variable's record after the variables' words, and the nodes of its type after the nodes' words.
@@ -48,8 +48,12 @@ variables_in variables types n = (take (n.variables * variable_width) variables,
 abbrev pub up_to_variables : Counts → Counts → Counts
 up_to_variables capacity n = record { bindings = n.bindings; buffers = n.buffers; variables = capacity.variables; types = capacity.types }
 
--- The variables' and the types' tables alone were written.
-pub record OnlyVariables (before after : Filling) : Type 0 where
-  pub same : SameFilling before after
-  pub bindings : after.bindings.now ≡ before.bindings.now
-  pub buffers : after.buffers.now ≡ before.buffers.now
+-- The types' table is still the one that was lent, as long as it was; all tables can take as many records, and the bindings and buffers are as many. The
+-- variables' table, which holds `variables` now, has room for those that it has.
+pub record OnlyVariables (before after : TypeFilling) (variables : List ℕ) : Type 0 where
+  pub types : after.types.ghost_name ≡ before.types.ghost_name
+  pub types_long : length after.types.now ≡ length before.types.now
+  pub capacity : after.capacity ≡ before.capacity
+  pub bindings : after.counts.bindings ≡ before.counts.bindings
+  pub buffers : after.counts.buffers ≡ before.counts.buffers
+  pub variables_fit : HasRoom variable_width after.capacity.variables after.counts.variables variables

@@ -6,9 +6,10 @@ ghost use Rattle.read_types.specs.Walked.{Walked};
 ghost use Rattle.read_types.specs.Filling.{counted};
 ghost use Rattle.read_tables.specs.Bindings.{code_check, bindings_progress, bindings_in, up_to_bindings, OnlyBindings};
 
+use crate::filling::BindingFilling;
 use codes::{ResourceDimension, ResourceInputType};
 use flags::BindingFlags;
-use read_types::{Filling, Record, Records, claim};
+use read_types::{Record, Records, claim};
 use reflection::{BINDING_STRIDE, Refusal, ResourceBinding, Text, WIDE_BINDING_STRIDE};
 
 // How many bytes a binding takes.
@@ -57,7 +58,10 @@ fn binding_record(binding: Record<'_>, name: Text) -> ResourceBinding
 
 // Walks bindings: they follow those that there are.
 #[tactic(auto, using(words::proofs::Parts::inside_fits))]
-pub fn walk_bindings(filling: &mut Filling<'_>, mut bindings: Records<'_>) -> Result<(), Refusal>
+pub fn walk_bindings(
+    filling: &mut BindingFilling<'_>,
+    mut bindings: Records<'_>,
+) -> Result<(), Refusal>
     ensures walked { Walked
         (bindings_progress bindings.entry.chunk.bytes.now bindings.entry.chunk.wide bindings.entry.count bindings.entry.at)
         filling.old.capacity (up_to_bindings filling.old.capacity filling.old.counts) filling.old.counts

@@ -1,11 +1,12 @@
 // The walk of the buffers, each with its variables and their types.
 ghost use Rattle.std.specs.Prelude.{◌≡◌};
-ghost use Rattle.read_types.specs.Walked.{Walked};
+ghost use Rattle.reflection.specs.Limits.{buffer_width, variable_width};
+ghost use Rattle.read_types.specs.Walked.{HasRoom, Walked};
 ghost use Rattle.read_types.specs.Filling.{counted};
 ghost use Rattle.read_tables.specs.Buffers.{buffer_record_in_chunk, buffers_progress, buffers_in, up_to_buffers, KeptBindings};
 
 use crate::variables::walk_variables;
-use read_types::{Filling, Record, Records, claim};
+use read_types::{Record, Records, TypeFilling, claim};
 use reflection::{BUFFER_STRIDE, CBufferDef, Refusal, Text};
 
 // The buffer, whose name is known.
@@ -22,14 +23,21 @@ fn buffer_record(buffer: Record<'_>, name: Text) -> CBufferDef
     }
 }
 
-// Walks buffers: they, their variables and the nodes of their types follow those that there are.
+// Walks buffers: they and their variables, each in their table, and the nodes of the variables' types follow those that there are.
 #[tactic(auto, using(words::proofs::Parts::inside_fits))]
-pub fn walk_buffers(filling: &mut Filling<'_>, mut buffers: Records<'_>) -> Result<(), Refusal>
+pub fn walk_buffers(
+    filling: &mut TypeFilling<'_>,
+    buffer_table: &mut [u32],
+    variable_table: &mut [u32],
+    mut buffers: Records<'_>,
+) -> Result<(), Refusal>
+    requires buffers_fit { HasRoom buffer_width filling.old.capacity.buffers filling.old.counts.buffers buffer_table.old }
+    requires variables_fit { HasRoom variable_width filling.old.capacity.variables filling.old.counts.variables variable_table.old }
     ensures walked { Walked (buffers_progress buffers.entry.chunk.bytes.now buffers.entry.chunk.sm5 buffers.entry.count buffers.entry.at)
         filling.old.capacity (up_to_buffers filling.old.capacity filling.old.counts) filling.old.counts
-        (buffers_in filling.old.buffers.now filling.old.variables.now filling.old.types.now)
-        (buffers_in filling.new.buffers.now filling.new.variables.now filling.new.types.now) (counted result filling.new.counts) }
-    ensures kept { KeptBindings filling.old filling.new }
+        (buffers_in buffer_table.old variable_table.old filling.old.types.now)
+        (buffers_in buffer_table.new variable_table.new filling.new.types.now) (counted result filling.new.counts) }
+    ensures kept { KeptBindings filling.old filling.new buffer_table.new variable_table.new }
 {
     for _ in 0..buffers.count {
         let n = claim(&mut filling.counts.buffers, filling.capacity.buffers)?;
@@ -39,9 +47,9 @@ pub fn walk_buffers(filling: &mut Filling<'_>, mut buffers: Records<'_>) -> Resu
             at: record.word(8) as usize,
             count: record.word(4),
         };
-        walk_variables(filling, variables)?;
+        walk_variables(filling, variable_table, variables)?;
         let name = record.name()?;
-        tables::put_buffer(filling.buffers, n, buffer_record(record, name));
+        tables::put_buffer(buffer_table, n, buffer_record(record, name));
     }
     Ok(())
 }

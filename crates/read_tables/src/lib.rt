@@ -3,8 +3,10 @@
 
 mod bindings;
 mod buffers;
+mod filling;
 mod variables;
 
 pub use bindings::walk_bindings;
 pub use buffers::walk_buffers;
+pub use filling::BindingFilling;
 pub use variables::walk_variables;

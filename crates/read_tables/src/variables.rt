@@ -1,14 +1,15 @@
 // The walk of a buffer's variables, each with the nodes of its type.
 ghost use Rattle.std.specs.Prelude.{◌≡◌, ◌+◌};
 ghost use Rattle.words.specs.Words.{word_at};
+ghost use Rattle.reflection.specs.Limits.{variable_width};
 ghost use Rattle.read_spec.specs.Read.{variable_stride, default_at};
 ghost use Rattle.read_types.specs.Found.{text_in};
-ghost use Rattle.read_types.specs.Walked.{Walked};
+ghost use Rattle.read_types.specs.Walked.{HasRoom, Walked};
 ghost use Rattle.read_types.specs.Filling.{counted};
 ghost use Rattle.read_tables.specs.Variables.{variable_record_in_chunk, variables_progress, variables_in, up_to_variables, OnlyVariables};
 
 use flags::VariableFlags;
-use read_types::{Filling, Record, Records, claim, walk_root};
+use read_types::{Record, Records, TypeFilling, claim, walk_root};
 use reflection::{CBufferVariable, Refusal, SM5_VARIABLE_STRIDE, Text, VARIABLE_STRIDE, in_chunk};
 
 // How many bytes a variable takes.
@@ -57,15 +58,20 @@ fn variable_record(variable: Record<'_>, name: Text, default: Text) -> CBufferVa
     }
 }
 
-// Walks variables: they, and the nodes of their types, follow those that there are.
+// Walks variables: they, in the table, and the nodes of their types follow those that there are.
 #[tactic(auto, using(words::proofs::Parts::inside_fits))]
-pub fn walk_variables(filling: &mut Filling<'_>, mut variables: Records<'_>) -> Result<(), Refusal>
+pub fn walk_variables(
+    filling: &mut TypeFilling<'_>,
+    table: &mut [u32],
+    mut variables: Records<'_>,
+) -> Result<(), Refusal>
+    requires { HasRoom variable_width filling.old.capacity.variables filling.old.counts.variables table.old }
     ensures walked { Walked
         (variables_progress variables.entry.chunk.bytes.now variables.entry.chunk.sm5 variables.entry.count variables.entry.at)
         filling.old.capacity (up_to_variables filling.old.capacity filling.old.counts) filling.old.counts
-        (variables_in filling.old.variables.now filling.old.types.now) (variables_in filling.new.variables.now filling.new.types.now)
+        (variables_in table.old filling.old.types.now) (variables_in table.new filling.new.types.now)
         (counted result filling.new.counts) }
-    ensures kept { OnlyVariables filling.old filling.new }
+    ensures kept { OnlyVariables filling.old filling.new table.new }
 {
     let stride = variable_stride(variables.chunk.sm5);
     for _ in 0..variables.count {
@@ -73,7 +79,7 @@ pub fn walk_variables(filling: &mut Filling<'_>, mut variables: Records<'_>) -> 
         let record = variables.next(stride)?;
         let default = default_of(record).ok_or(Refusal::DefaultPastEnd)?;
         let name = record.name()?;
-        tables::put_variable(filling.variables, n, variable_record(record, name, default));
+        tables::put_variable(table, n, variable_record(record, name, default));
         walk_root(filling, variables.chunk, record.word(16))?;
     }
     Ok(())

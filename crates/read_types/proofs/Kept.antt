@@ -4,27 +4,16 @@ use mathlib.Core.List.{List}
 use Prim.Native.Nat.{ℕ}
 use Rattle.read_spec.specs.declared.Counts.{Counts}
 use Rattle.read_spec.specs.Step.{Room, Walk}
-use Rattle.read_types.specs.declared.filling.Filling.{Filling}
+use Rattle.read_types.specs.declared.filling.TypeFilling.{TypeFilling}
 use Rattle.read_types.specs.Progress.{Progress}
 use Rattle.read_types.specs.Walk.{WalkedType}
-use Rattle.read_types.specs.Filling.{SameFilling, OnlyTypes}
+use Rattle.read_types.specs.Filling.{OnlyTypes}
 
-pub same_then : {a b c : Filling} → SameFilling a b → SameFilling b c → SameFilling a c
-same_then p q = record {
-  bindings = q.bindings ∙ p.bindings;
-  buffers = q.buffers ∙ p.buffers;
-  variables = q.variables ∙ p.variables;
+pub types_then : {a b c : TypeFilling} → OnlyTypes a b → OnlyTypes b c → OnlyTypes a c
+types_then p q = record {
   types = q.types ∙ p.types;
-  bindings_long = q.bindings_long ∙ p.bindings_long;
-  buffers_long = q.buffers_long ∙ p.buffers_long;
-  variables_long = q.variables_long ∙ p.variables_long;
   types_long = q.types_long ∙ p.types_long;
   capacity = q.capacity ∙ p.capacity;
-}
-
-pub types_then : {a b c : Filling} → OnlyTypes a b → OnlyTypes b c → OnlyTypes a c
-types_then p q = record {
-  same = same_then p.same q.same;
   bindings = q.bindings ∙ p.bindings;
   buffers = q.buffers ∙ p.buffers;
   variables = q.variables ∙ p.variables;

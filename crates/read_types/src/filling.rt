@@ -1,25 +1,20 @@
-// The tables, while they are filled.
+// The types' table, while it is filled.
 ghost use Rattle.std.specs.Prelude.{◌≡◌, length, MatchResult};
-ghost use Rattle.reflection.specs.Limits.{binding_width, buffer_width, variable_width, type_width, type_levels};
+ghost use Rattle.reflection.specs.Limits.{type_width, type_levels};
 ghost use Rattle.read_types.specs.Walked.{HasRoom, Claimed, Full};
 
 use read_spec::Counts;
 use reflection::{Refusal, TYPE_LEVELS};
 
-// The four tables with how many records each has and can take, and the type descriptors on the way down to the one that is walked: their offsets, root first.
+// The types' table, with how many records each of the four tables has and can take, and the type descriptors on the way down to the one that is walked:
+// their offsets, root first. The other tables are not in it, so that no walk is lent a table that it does not fill.
 #[derive(Drop)]
-pub struct Filling<'a> {
-    pub bindings: &'a mut [u32],
-    pub buffers: &'a mut [u32],
-    pub variables: &'a mut [u32],
+pub struct TypeFilling<'a> {
     pub types: &'a mut [u32],
     pub capacity: Counts,
     pub counts: Counts,
     pub path: [u32; TYPE_LEVELS],
     pub ghost path_long: { length path ≡ type_levels },
-    pub ghost bindings_fit: { HasRoom binding_width capacity.bindings counts.bindings bindings.now },
-    pub ghost buffers_fit: { HasRoom buffer_width capacity.buffers counts.buffers buffers.now },
-    pub ghost variables_fit: { HasRoom variable_width capacity.variables counts.variables variables.now },
     pub ghost types_fit: { HasRoom type_width capacity.types counts.types types.now },
 }
 

@@ -20,14 +20,14 @@ mod filling;
 mod found;
 
 pub use chunk::{Chunk, Record, Records};
-pub use filling::{Filling, claim};
+pub use filling::{TypeFilling, claim};
 pub use found::string_at;
 
 // What a member says of its type: its name and its offset.
 #[derive(Clone, Copy)]
-struct Member {
-    name: Text,
-    offset: u32,
+pub struct Member {
+    pub name: Text,
+    pub offset: u32,
 }
 
 // How many bytes a type descriptor takes.
@@ -81,8 +81,8 @@ fn type_node(descriptor: Record<'_>, name: Text, member: Member) -> TypeDesc
 
 // Walks the type at `at`: its node follows those that there are.
 #[cycle(walk_members_walk_type)]
-fn walk_type(
-    filling: &mut Filling<'_>,
+pub fn walk_type(
+    filling: &mut TypeFilling<'_>,
     chunk: Chunk<'_>,
     at: u32,
     levels: usize,
@@ -124,7 +124,7 @@ fn walk_type(
 #[cycle(walk_members_walk_type)]
 #[tactic(auto, using(words::proofs::Parts::inside_fits))]
 fn walk_members(
-    filling: &mut Filling<'_>,
+    filling: &mut TypeFilling<'_>,
     mut members: Records<'_>,
     levels: usize,
 ) -> Result<(), Refusal>
@@ -149,7 +149,7 @@ fn walk_members(
 
 // Walks the type at `at`, which no member leads to.
 #[tactic(auto, unfolding(crate::specs::Walk::turned_onto))]
-pub fn walk_root(filling: &mut Filling<'_>, chunk: Chunk<'_>, at: u32) -> Result<(), Refusal>
+pub fn walk_root(filling: &mut TypeFilling<'_>, chunk: Chunk<'_>, at: u32) -> Result<(), Refusal>
     ensures walked { Walked (type_progress chunk.entry.bytes.now chunk.entry.sm5 type_levels [] at (in_chunk 0 0) 0)
         filling.old.capacity (up_to_types filling.old.capacity filling.old.counts) filling.old.counts
         (nodes_in filling.old.types.now) (nodes_in filling.new.types.now) (counted result filling.new.counts) }

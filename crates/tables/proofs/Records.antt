@@ -1,7 +1,7 @@
 -- Records of a fixed width in a table of words: what is written as record i is read there, and no other record changes.
 -- One law over the width and the words serves the four tables: a record that lies whole in the table begins at i * width, and two records share no word.
-use mathlib.Core.Path.{◌≡◌, sym, ap, ◌∙◌}
-use mathlib.Core.List.{List}
+use mathlib.Core.Path.{◌≡◌, refl, sym, ap, ◌∙◌}
+use mathlib.Core.List.{List, append_assoc}
 use Prim.Native.Nat.{ℕ, zero, suc, ◌+◌, ◌*◌, ◌/◌, ◌≤◌, ◌<◌}
 use native.Mathlib.Nat.{mul-le-mul_right, div-mul-le_self, suc-mul, zero-mul}
 use native.Mathlib.Decide.{dec_lt}
@@ -12,7 +12,10 @@ use lib.Seq.{length-take-le, get_or-take, get_or-drop}
 use Rattle.std.proofs.lemmas.List.{drop-drop}
 use Rattle.std.specs.Simd.{first_chunks}
 use Rattle.words.specs.Splice.{splice}
-use Rattle.words.proofs.Splice.{length_splice}
+use borrow.Rule.Slice.PartMut.{put_mid}
+use Rattle.std.proofs.lemmas.Slice.{put_mid-paste}
+use Rattle.std.proofs.lemmas.List.Edits.{paste_all}
+use Rattle.words.proofs.Splice.{length_splice, splice_eq}
 use Rattle.words.proofs.Records.{record_written, other_record_kept}
 use Rattle.tables.specs.Records.{holds_record, put_record, record_word, within}
 
@@ -29,6 +32,20 @@ module _ (width : ℕ) (t : List ℕ) (i : ℕ) (words : List ℕ) where
   pub put_outside : length t / width ≤ i → put_record width t i words ≡ t
   unfolding put_record holds_record
   put_outside h = rw (put_record, holds_record, le-ltb i (length t / width) h)
+
+-- a record that is copied into its place is written there
+pub put_copied : (width : ℕ) (t : List ℕ) (i k : ℕ) (words : List ℕ) → k ≡ length words → k ≡ width → i < length t / width
+    → put_mid (i * width) k t words ≡ put_record width t i words
+put_copied width t i k words e whole inside =
+    let there : i * width + k ≤ length t = omega (arith, record_inside width (length t) i inside) in
+    grind (
+      arith,
+      put_mid-paste (i * width) k t words words k refl refl e,
+      paste_all t (i * width) words k e,
+      append_assoc (take (i * width) t) words (drop (i * width + k) t),
+      splice_eq t (i * width) words (omega (arith, there, e)),
+    )
+    ∙ sym (put_inside width t i words inside)
 
 -- a word of a record inside, and of one outside
 module _ (width : ℕ) (t : List ℕ) (i k : ℕ) where

@@ -190,12 +190,12 @@ impl Record<TYPE_WORDS> for TypeDesc {
 }
 
 // Writes record i of the table; where it does not lie whole in the table, nothing is written.
-#[tactic(auto, using(crate::proofs::Records::record_inside, crate::proofs::Records::put_inside, crate::proofs::Records::put_outside))]
+#[tactic(auto, using(crate::proofs::Records::record_inside, crate::proofs::Records::put_inside, crate::proofs::Records::put_outside, crate::proofs::Records::put_copied))]
 pub(crate) fn put<R: Record<N>, const N: usize>(table: &mut [u32], i: usize, r: R)
     ensures { table.new ≡ put_record N table.old i (R.words r) }
 {
     if i < table.len() / N {
-        words::overwrite(table, i * N, &r.to_words());
+        table[i * N..i * N + N].copy_from_slice(&r.to_words());
     }
 }
 

@@ -27,18 +27,19 @@ pub fn half_at(s: &[u8], at: usize) -> u32
     byte_at(s, at) + 256 * byte_at(s, at + 1)
 }
 
-// The four bytes at `at` as a number; what lies past the end counts as 0. Mostly all four are there: one load of the machine.
-#[tactic(auto, unfolding(crate::specs::Words::half_at, crate::specs::Words::word_at))]
+// The four bytes at `at` as a number; what lies past the end counts as 0. Mostly all four are there: one test, and one load of the machine.
+#[tactic(auto, unfolding(crate::specs::Words::half_at, crate::specs::Words::word_at), using(crate::proofs::Parts::inside_fits))]
 pub fn word_at(s: &[u8], at: usize) -> u32
     ensures { result ≡ word_at s.now at }
 {
+    if inside(s.len(), at, 4) {
+        let bytes = [s[at], s[at + 1], s[at + 2], s[at + 3]];
+        return u32::from_le_bytes(bytes);
+    }
     let Some(rest) = s.get(at..) else {
         return 0;
     };
-    match rest.first_chunk() {
-        Some(&bytes) => u32::from_le_bytes(bytes),
-        None => half_at(rest, 0) + 65536 * half_at(rest, 2),
-    }
+    half_at(rest, 0) + 65536 * half_at(rest, 2)
 }
 
 // The word at `at` of a record that may have it, else 0.

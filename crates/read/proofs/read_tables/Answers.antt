@@ -1,5 +1,5 @@
 -- `read_tables` meets its contract: each way out is a law of the header and the two walks, from what they ensure. Assumes nothing.
-use mathlib.Core.Path.{◌≡◌, ◌∙◌}
+use mathlib.Core.Path.{◌≡◌}
 use native.Mathlib.Omega.{arith}
 use Rattle.std.proofs.Common.{rules}
 use Rattle.std.proofs.lemmas.Result.{err_from_is_err_and}
@@ -28,7 +28,7 @@ returns-in_err-walk_buffers-clause-filled c =
     (buffers_refused c.args.bytes.now c.capacity_of-capacity.ensures c.in_ok-header.header c.in_ok-header.ensures
     c.word_at-2.ensures c.word_at.ensures _ (rw none at c.in_ok-walk_bindings.ensures.walked)
     c.word_at-4.ensures c.word_at-3.ensures _ _ _ _
-    (rw (kept.same.capacity, kept.buffers, kept.variables, kept.types) at c.in_err-walk_buffers.ensures.walked))
+    c.in_err-walk_buffers.ensures.walked)
 
 pub returns-clause-filled : goal.returns-clause-filled
 returns-clause-filled c =
@@ -38,15 +38,14 @@ returns-clause-filled c =
     let filled =
     tables_filled c.args.bytes.now c.capacity_of-capacity.ensures c.in_ok-header.header c.in_ok-header.ensures
     c.word_at-2.ensures c.word_at.ensures c.walk_bindings.new.filling.bindings.now (rw none at c.in_ok-walk_bindings.ensures.walked)
-    c.word_at-4.ensures c.word_at-3.ensures c.walk_buffers.new.filling.buffers.now c.walk_buffers.new.filling.variables.now c.walk_buffers.new.filling.types.now
-    (rw (kept.same.capacity, kept.buffers, kept.variables, kept.types) at c.in_ok-walk_buffers.ensures.walked)
-    kept.same.bindings_long (then.same.buffers_long ∙ kept.same.buffers_long) (then.same.variables_long ∙ kept.same.variables_long)
-    (then.same.types_long ∙ kept.same.types_long)
+    c.word_at-4.ensures c.word_at-3.ensures c.walk_buffers.new.buffer_table c.walk_buffers.new.variable_table c.walk_buffers.new.filling.types.now
+    c.in_ok-walk_buffers.ensures.walked
+    kept.bindings_long c.walk_buffers.auto.buffer_table c.walk_buffers.auto.variable_table then.types_long
     c.word_at-5.ensures c.word_at-6.ensures c.word_if.ensures c.word_if-2.ensures c.word_if-3.ensures in
     record {
       answer = filled.answer;
       rows = (
-        grind (arith, filled.rows.0, then.bindings),
+        grind (arith, filled.rows.0),
         (
           grind (arith, filled.rows.1.0),
           (

@@ -101,7 +101,7 @@ walk_members-returns-in_err-walk_type-clause-walked t c =
     rw (p.1, p.2)
     (ends_below c.loop.invariant.going
     (member_at (omega arith) (rw c.loop.invariant.chunk at taken.read) found c.word-in-loop.ensures c.word.ensures) found.is
-    (walked_within c.loop.invariant.kept.same.capacity (rw (taken.chunk, c.loop.invariant.chunk) at c.in_err-walk_type.ensures.walked)))
+    (walked_within c.loop.invariant.kept.capacity (rw (taken.chunk, c.loop.invariant.chunk) at c.in_err-walk_type.ensures.walked)))
 
 -- The next member.
 pub walk_members-loop-preserved : goal.walk_members-loop-preserved
@@ -113,8 +113,8 @@ walk_members-loop-preserved t c =
       going = rw taken.at
           (goes_on c.loop.invariant.going
           (member_at (omega arith) (rw c.loop.invariant.chunk at taken.read) found c.word-in-loop.ensures c.word.ensures) found.is
-          (walked_within c.loop.invariant.kept.same.capacity (rw (taken.chunk, c.loop.invariant.chunk) at c.in_ok-walk_type.ensures.walked))
-          kept.same.types_long (c.walk_type.new.filling.path_long ∙ sym c.loop.filling.path_long) (omega arith));
+          (walked_within c.loop.invariant.kept.capacity (rw (taken.chunk, c.loop.invariant.chunk) at c.in_ok-walk_type.ensures.walked))
+          kept.types_long (c.walk_type.new.filling.path_long ∙ sym c.loop.filling.path_long) (omega arith));
       chunk = taken.chunk ∙ c.loop.invariant.chunk;
       kept = types_then c.loop.invariant.kept kept;
     }

@@ -17,14 +17,14 @@ returns-in_err-n-clause-walked c =
     let p = err_from_is_err_and c.from_residual.result c.from_residual.ensures.1 in
     rw (p.1, p.2, c.in_err-n.ensures.refusal)
     (stops c.loop.invariant.going (omega arith)
-    (binding_full _ _ _ c.args.filling.now.capacity c.loop.filling.counts _ (rw c.loop.invariant.kept.same.capacity at c.in_err-n.ensures.full)))
+    (binding_full _ _ _ c.args.filling.now.capacity c.loop.filling.counts _ (rw c.loop.invariant.kept.capacity at c.in_err-n.ensures.full)))
 
 pub returns-in_err-record-clause-walked : goal.returns-in_err-record-clause-walked
 returns-in_err-record-clause-walked c =
     let p = err_from_is_err_and c.from_residual-in_err-record.result c.from_residual-in_err-record.ensures.1 in
     rw (p.1, p.2, c.in_err-record.ensures.refusal)
     (stops c.loop.invariant.going (omega arith)
-    (binding_short _ _ _ c.args.filling.now.capacity c.loop.filling.counts _ (rw c.loop.invariant.kept.same.capacity at c.in_ok-n.ensures.free)
+    (binding_short _ _ _ c.args.filling.now.capacity c.loop.filling.counts _ (rw c.loop.invariant.kept.capacity at c.in_ok-n.ensures.free)
     (cc (rw c.loop.invariant.chunk at c.in_err-record.ensures.outside, c.binding_stride-stride.ensures))))
 
 pub returns-in_err-check_codes-clause-walked : goal.returns-in_err-check_codes-clause-walked
@@ -33,7 +33,7 @@ returns-in_err-check_codes-clause-walked c =
     let read = rw c.loop.invariant.chunk at c.in_ok-record.ensures.read in
     rw (p.1, p.2)
     (stops c.loop.invariant.going (omega arith)
-    (binding_coded_wrong _ _ _ c.args.filling.now.capacity c.loop.filling.counts _ (rw c.loop.invariant.kept.same.capacity at c.in_ok-n.ensures.free)
+    (binding_coded_wrong _ _ _ c.args.filling.now.capacity c.loop.filling.counts _ (rw c.loop.invariant.kept.capacity at c.in_ok-n.ensures.free)
     (cc (read.fits, c.binding_stride-stride.ensures))
     c.in_err-check_codes.field-0.0 (sym (in_record (λ s five wide at. code_check s at) read) ∙ sym c.in_err-check_codes.ensures)))
 
@@ -44,7 +44,7 @@ returns-in_err-name-clause-walked c =
     let bad = not_found _ c.in_err-name.ensures in
     rw (p.1, p.2, bad.refusal)
     (stops c.loop.invariant.going (omega arith)
-    (binding_named_badly _ _ _ c.args.filling.now.capacity c.loop.filling.counts _ (rw c.loop.invariant.kept.same.capacity at c.in_ok-n.ensures.free)
+    (binding_named_badly _ _ _ c.args.filling.now.capacity c.loop.filling.counts _ (rw c.loop.invariant.kept.capacity at c.in_ok-n.ensures.free)
     (cc (read.fits, c.binding_stride-stride.ensures))
     (sym (in_record (λ s five wide at. code_check s at) read) ∙ sym c.in_ok-check_codes.ensures)
     (sym (in_record (λ s five wide at. cstring_at s (word_at s at)) read) ∙ bad.none)))
@@ -52,13 +52,12 @@ returns-in_err-name-clause-walked c =
 pub loop-preserved : goal.loop-preserved
 loop-preserved c =
     let kept = c.loop.invariant.kept in
-    let same = kept.same in
     let read = rw c.loop.invariant.chunk at c.in_ok-record.ensures.read in
-    let free = rw same.capacity at c.in_ok-n.ensures.free in
+    let free = rw kept.capacity at c.in_ok-n.ensures.free in
     let found = text_found _ _ c.in_ok-name.ensures in
     record {
       going = rw (c.in_ok-n.ensures.one_more, c.in_ok-record.ensures.at) (goes_on c.loop.invariant.going (omega arith)
-          (binding_written _ _ _ c.args.filling.now.capacity c.loop.filling.counts _ (rw same.capacity at c.loop.filling.bindings_fit) free
+          (binding_written _ _ _ c.args.filling.now.capacity c.loop.filling.counts _ (rw kept.capacity at c.loop.filling.bindings_fit) free
           (cc (read.fits, c.binding_stride-stride.ensures))
           (sym (in_record (λ s five wide at. code_check s at) read) ∙ sym c.in_ok-check_codes.ensures)
           (sym (in_record (λ s five wide at. cstring_at s (word_at s at)) read) ∙ found.some) found.is
@@ -68,17 +67,9 @@ loop-preserved c =
           c.binding_stride-stride.ensures (omega arith));
       chunk = c.in_ok-record.ensures.chunk ∙ c.loop.invariant.chunk;
       kept = record {
-        same = record {
-          bindings = same.bindings;
-          buffers = same.buffers;
-          variables = same.variables;
-          types = same.types;
-          bindings_long = c.put_binding.auto.table ∙ same.bindings_long;
-          buffers_long = same.buffers_long;
-          variables_long = same.variables_long;
-          types_long = same.types_long;
-          capacity = same.capacity;
-        };
+        bindings = kept.bindings;
+        bindings_long = c.put_binding.auto.table ∙ kept.bindings_long;
+        capacity = kept.capacity;
         buffers = kept.buffers;
         variables = kept.variables;
         types = kept.types;

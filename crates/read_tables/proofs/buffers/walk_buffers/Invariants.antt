@@ -12,8 +12,8 @@ invariant-loop l = record {
   going : Going append_buffer (read_buffer l.initial.buffers.chunk.bytes.now l.initial.buffers.chunk.sm5)
       buffer_stride l.initial.buffers.at l.initial.buffers.count
       l.initial.filling.capacity (up_to_buffers l.initial.filling.capacity l.initial.filling.counts) l.initial.filling.counts
-      (buffers_in l.initial.filling.buffers.now l.initial.filling.variables.now l.initial.filling.types.now)
-      (buffers_in l.filling.buffers.now l.filling.variables.now l.filling.types.now) l.filling.counts l.buffers.at (l.initial.buffers.count - l.counter);
+      (buffers_in l.initial.buffer_table l.initial.variable_table l.initial.filling.types.now)
+      (buffers_in l.buffer_table l.variable_table l.filling.types.now) l.filling.counts l.buffers.at (l.initial.buffers.count - l.counter);
   chunk : l.buffers.chunk ≡ l.initial.buffers.chunk;
-  kept : KeptBindings l.initial.filling l.filling;
+  kept : KeptBindings l.initial.filling l.filling l.buffer_table l.variable_table;
 }

@@ -19,6 +19,7 @@ use Rattle.read_types.specs.Walked.{HasRoom}
 use Rattle.read_types.proofs.InChunk.{FoundText, not_found, text_found, none_found, some_found, in_record}
 use Rattle.read_tables.specs.Variables.{variable_record_in_chunk}
 use Rattle.read_tables.proofs.Loop.{ends, stops, goes_on}
+use Rattle.read_tables.proofs.Put.{has_room}
 use Rattle.read_tables.proofs.Grown.{variables_grown}
 use Rattle.read_tables.proofs.OneVariable.{variable_full, variable_short, variable_default_outside, variable_named_badly, variable_put}
 use Rattle.read_tables.proofs.OneVariable.{VariableWritten, variable_refused, variable_filled}
@@ -61,14 +62,14 @@ returns-in_err-n-clause-walked c =
     let p = err_from_is_err_and c.from_residual.result c.from_residual.ensures.1 in
     rw (p.1, p.2, c.in_err-n.ensures.refusal)
     (stops c.loop.invariant.going (omega arith)
-    (variable_full _ _ _ c.args.filling.now.capacity c.loop.filling.counts _ (rw c.loop.invariant.kept.same.capacity at c.in_err-n.ensures.full)))
+    (variable_full _ _ _ c.args.filling.now.capacity c.loop.filling.counts _ (rw c.loop.invariant.kept.capacity at c.in_err-n.ensures.full)))
 
 pub returns-in_err-record-clause-walked : goal.returns-in_err-record-clause-walked
 returns-in_err-record-clause-walked c =
     let p = err_from_is_err_and c.from_residual-in_err-record.result c.from_residual-in_err-record.ensures.1 in
     rw (p.1, p.2, c.in_err-record.ensures.refusal)
     (stops c.loop.invariant.going (omega arith)
-    (variable_short _ _ _ c.args.filling.now.capacity c.loop.filling.counts _ (rw c.loop.invariant.kept.same.capacity at c.in_ok-n.ensures.free)
+    (variable_short _ _ _ c.args.filling.now.capacity c.loop.filling.counts _ (rw c.loop.invariant.kept.capacity at c.in_ok-n.ensures.free)
     (cc (rw c.loop.invariant.chunk at c.in_err-record.ensures.outside, c.variable_stride-stride.ensures))))
 
 pub returns-in_err-default-clause-walked : goal.returns-in_err-default-clause-walked
@@ -78,7 +79,7 @@ returns-in_err-default-clause-walked c =
     let bad = none_found _ c.default_of.ensures c.in_err-default.ensures.value in
     rw (p.1, p.2, bad.refusal)
     (stops c.loop.invariant.going (omega arith)
-    (variable_default_outside _ _ _ c.args.filling.now.capacity c.loop.filling.counts _ (rw c.loop.invariant.kept.same.capacity at c.in_ok-n.ensures.free)
+    (variable_default_outside _ _ _ c.args.filling.now.capacity c.loop.filling.counts _ (rw c.loop.invariant.kept.capacity at c.in_ok-n.ensures.free)
     (cc (read.fits, c.variable_stride-stride.ensures)) (default_in read ∙ bad.none)))
 
 pub returns-in_err-name-clause-walked : goal.returns-in_err-name-clause-walked
@@ -89,7 +90,7 @@ returns-in_err-name-clause-walked c =
     let bad = not_found _ c.in_err-name.ensures in
     rw (p.1, p.2, bad.refusal)
     (stops c.loop.invariant.going (omega arith)
-    (variable_named_badly _ _ _ c.args.filling.now.capacity c.loop.filling.counts _ (rw c.loop.invariant.kept.same.capacity at c.in_ok-n.ensures.free)
+    (variable_named_badly _ _ _ c.args.filling.now.capacity c.loop.filling.counts _ (rw c.loop.invariant.kept.capacity at c.in_ok-n.ensures.free)
     (cc (read.fits, c.variable_stride-stride.ensures))
     _ _ (default_in read ∙ default.some)
     (sym (in_record (λ s five wide at. cstring_at s (word_at s at)) read) ∙ bad.none)))
@@ -97,47 +98,40 @@ returns-in_err-name-clause-walked c =
 pub returns-in_err-walk_root-clause-walked : goal.returns-in_err-walk_root-clause-walked
 returns-in_err-walk_root-clause-walked c =
     let p = err_from_is_err_and c.from_residual-in_err-walk_root.result c.from_residual-in_err-walk_root.ensures.1 in
-    let same = c.loop.invariant.kept.same in
+    let kept = c.loop.invariant.kept in
     rw (p.1, p.2)
     (stops c.loop.invariant.going (omega arith)
     (variable_refused
-    (written (rw same.capacity at c.loop.filling.variables_fit) (rw same.capacity at c.in_ok-n.ensures.free) c.variable_stride-stride.ensures
+    (written (rw kept.capacity at kept.variables_fit) (rw kept.capacity at c.in_ok-n.ensures.free) c.variable_stride-stride.ensures
     (rw c.loop.invariant.chunk at c.in_ok-record.ensures.read) (some_found _ _ c.default_of.ensures c.in_ok-default.ensures.value)
     (text_found _ _ c.in_ok-name.ensures) c.variable_record.ensures (rw c.in_ok-n.ensures.is at c.put_variable.ensures) c.word.ensures)
-    _ _ (rw (same.capacity, c.in_ok-n.ensures.one_more, c.in_ok-record.ensures.chunk, c.loop.invariant.chunk) at c.in_err-walk_root.ensures.walked)))
+    _ _ (rw (kept.capacity, c.in_ok-n.ensures.one_more, c.in_ok-record.ensures.chunk, c.loop.invariant.chunk) at c.in_err-walk_root.ensures.walked)))
 
 pub loop-preserved : goal.loop-preserved
 loop-preserved c =
     let kept = c.loop.invariant.kept in
-    let same = kept.same in
-    let free = rw same.capacity at c.in_ok-n.ensures.free in
-    let walked = rw (same.capacity, c.in_ok-n.ensures.one_more, c.in_ok-record.ensures.chunk, c.loop.invariant.chunk) at c.in_ok-walk_root.ensures.walked in
+    let free = rw kept.capacity at c.in_ok-n.ensures.free in
+    let walked = rw (kept.capacity, c.in_ok-n.ensures.one_more, c.in_ok-record.ensures.chunk, c.loop.invariant.chunk) at c.in_ok-walk_root.ensures.walked in
     let put = rw c.in_ok-n.ensures.is at c.put_variable.ensures in
     let then = c.in_ok-walk_root.ensures.kept in
     record {
       going = rw c.in_ok-record.ensures.at (goes_on c.loop.invariant.going (omega arith)
           (variable_filled
-          (written (rw same.capacity at c.loop.filling.variables_fit) free c.variable_stride-stride.ensures
+          (written (rw kept.capacity at kept.variables_fit) free c.variable_stride-stride.ensures
           (rw c.loop.invariant.chunk at c.in_ok-record.ensures.read) (some_found _ _ c.default_of.ensures c.in_ok-default.ensures.value)
-          (text_found _ _ c.in_ok-name.ensures) c.variable_record.ensures (then.variables ∙ put) c.word.ensures)
+          (text_found _ _ c.in_ok-name.ensures) c.variable_record.ensures put c.word.ensures)
           _ _ walked)
           (variables_grown c.args.filling.now.capacity c.loop.invariant.going.grew free walked.grew)
           c.variable_stride-stride.ensures (omega arith));
       chunk = c.in_ok-record.ensures.chunk ∙ c.loop.invariant.chunk;
       kept = record {
-        same = record {
-          bindings = then.same.bindings ∙ same.bindings;
-          buffers = then.same.buffers ∙ same.buffers;
-          variables = then.same.variables ∙ same.variables;
-          types = then.same.types ∙ same.types;
-          bindings_long = then.same.bindings_long ∙ same.bindings_long;
-          buffers_long = then.same.buffers_long ∙ same.buffers_long;
-          variables_long = then.same.variables_long ∙ c.put_variable.auto.table ∙ same.variables_long;
-          types_long = then.same.types_long ∙ same.types_long;
-          capacity = then.same.capacity ∙ same.capacity;
-        };
+        types = then.types ∙ kept.types;
+        types_long = then.types_long ∙ kept.types_long;
+        capacity = then.capacity ∙ kept.capacity;
         bindings = then.bindings ∙ kept.bindings;
         buffers = then.buffers ∙ kept.buffers;
+        variables_fit = has_room kept.variables_fit (λ i. (then.capacity i).variables)
+            (omega (arith, then.variables, c.in_ok-n.ensures.one_more, c.in_ok-n.ensures.free)) c.put_variable.auto.table;
       };
     }
 

@@ -11,8 +11,8 @@ invariant-loop l = record {
   going : Going append_variable (read_variable l.initial.variables.chunk.bytes.now l.initial.variables.chunk.sm5)
       (variable_stride l.initial.variables.chunk.sm5) l.initial.variables.at l.initial.variables.count
       l.initial.filling.capacity (up_to_variables l.initial.filling.capacity l.initial.filling.counts) l.initial.filling.counts
-      (variables_in l.initial.filling.variables.now l.initial.filling.types.now) (variables_in l.filling.variables.now l.filling.types.now)
+      (variables_in l.initial.table l.initial.filling.types.now) (variables_in l.table l.filling.types.now)
       l.filling.counts l.variables.at (l.initial.variables.count - l.counter);
   chunk : l.variables.chunk ≡ l.initial.variables.chunk;
-  kept : OnlyVariables l.initial.filling l.filling;
+  kept : OnlyVariables l.initial.filling l.filling l.table;
 }
