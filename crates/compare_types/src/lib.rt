@@ -2,6 +2,7 @@
 #![tactic(auto)]
 
 mod node;
+mod pair;
 mod same;
 mod skip;
 

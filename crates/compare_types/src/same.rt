@@ -1,13 +1,13 @@
 // Whether two types, of one table or of two, are equal: their numbers, names and members (document 01, "Canonical form").
-ghost use Rattle.std.specs.Prelude.{◌≡◌, true, false, ◌+◌};
+ghost use Rattle.std.specs.Prelude.{◌≡◌, true, false};
 ghost use Rattle.text.specs.Same.{same_bytes};
 ghost use Rattle.tables.specs.Decode.{node_from_table};
-ghost use Rattle.write_spec.specs.Same.{numbers_of, same_type, same_members};
-ghost use Rattle.tables.specs.Trees.{node_at, tree_at, members_at};
+ghost use Rattle.write_spec.specs.Same.{numbers_of, same_type};
+ghost use Rattle.tables.specs.Trees.{node_at};
 ghost use Rattle.compare_types.specs.Same.{same_in, tree_of};
 
 use crate::TypeNode;
-use crate::skip::{has_member, skip_type};
+use crate::pair::Pair;
 use reflection::{Text, Texts, TypeDesc};
 
 // Whether one of the first five numbers of one node is another than that of the other. A quick test: the words are read where they lie, the number of
@@ -25,7 +25,7 @@ fn other_numbers(x: TypeNode<'_>, y: TypeNode<'_>) -> bool
 
 // Whether two nodes have the same numbers. No derive says it: the names and the member count are left out.
 #[tactic(auto, unfolding(write_spec::specs::Same::numbers_of, tables::specs::Decode::node_from_table, text::specs::Same::same_bytes))]
-fn same_numbers(x: TypeDesc, y: TypeDesc) -> bool
+pub(crate) fn same_numbers(x: TypeDesc, y: TypeDesc) -> bool
     ensures { result ≡ same_bytes (numbers_of (node_from_table x).numbers) (numbers_of (node_from_table y).numbers) }
 {
     x.class == y.class
@@ -40,6 +40,7 @@ fn same_numbers(x: TypeDesc, y: TypeDesc) -> bool
 }
 
 // Whether two names have the same bytes. Names in one place, as of types that were read from one descriptor, need no look at the bytes.
+#[inline]
 #[tactic(auto, using(crate::proofs::Names::in_one_place), unfolding(crate::specs::Same::same_name))]
 pub fn same_name(texts: Texts<'_>, x: Text, y: Text) -> bool
     ensures { result ≡ same_in texts.entry x y }
@@ -61,63 +62,13 @@ pub fn same_type(texts: Texts<'_>, x: TypeNode<'_>, y: TypeNode<'_>, levels: usi
 }
 
 // Whether the types at two nodes are equal, each with at most so many levels of members.
-// No derive says it: the types are nodes of lent tables, and names are equal by their bytes.
-#[cycle(same_members_same_type_between)]
-#[tactic(auto, using(crate::proofs::Equal::type_tests))]
 pub fn same_type_between(texts: Texts<'_>, x: TypeNode<'_>, y: TypeNode<'_>, levels: usize) -> bool
     ensures { result ≡ same_type (same_in texts.entry) (tree_of levels x.entry) (tree_of levels y.entry) }
 {
-    let a = tables::type_at(x.types, x.node);
-    let b = tables::type_at(y.types, y.node);
-    same_numbers(a, b)
-        && same_name(texts, a.name, b.name)
-        && (levels == 0 || same_members(texts, x, a.member_count, y, b.member_count, levels - 1))
-}
-
-// Whether the first m members of the type at node x and the first n of that at node y are equal. A loop, so that the stack holds at most two frames for each
-// level.
-#[cycle(same_members_same_type_between)]
-#[tactic(auto, using(crate::proofs::Equal::member_tests))]
-fn same_members(
-    texts: Texts<'_>,
-    x: TypeNode<'_>,
-    m: u32,
-    y: TypeNode<'_>,
-    n: u32,
-    levels: usize,
-) -> bool
-    ensures { result ≡ same_members (same_in texts.entry)
-        (members_at (tree_at x.entry.types.now levels) x.entry.types.now m (x.entry.node + 1)).it
-        (members_at (tree_at y.entry.types.now levels) y.entry.types.now n (y.entry.node + 1)).it }
-{
-    let mut left = m;
-    let mut other_left = n;
-    let mut i = x.node + 1;
-    let mut j = y.node + 1;
-    while has_member(x.types, left, i) {
-        if !has_member(y.types, other_left, j) {
-            return false;
-        }
-        let a = tables::type_at(x.types, i);
-        let b = tables::type_at(y.types, j);
-        let member = TypeNode {
-            types: x.types,
-            node: i,
-        };
-        let other = TypeNode {
-            types: y.types,
-            node: j,
-        };
-        if a.member_offset != b.member_offset
-            || !same_name(texts, a.member_name, b.member_name)
-            || !same_type_between(texts, member, other, levels)
-        {
-            return false;
-        }
-        i = skip_type(member, levels);
-        j = skip_type(other, levels);
-        left -= 1;
-        other_left -= 1;
-    }
-    !has_member(y.types, other_left, j)
+    let pair = Pair {
+        texts,
+        types: x.types,
+        others: y.types,
+    };
+    pair.same_type(x.node, y.node, levels).is_some()
 }
