@@ -14,20 +14,24 @@ fn continues(b: u8) -> bool
     (0x80..=0xbf).contains(&b)
 }
 
-// How many Unicode scalar values a text has: as many as bytes that do not continue a sequence.
+// How many Unicode scalar values a text has: as many as bytes that do not continue a sequence. A sum is compiled to a loop over several bytes at once, `filter`
+// and `count` to one over single bytes.
 fn scalar_count(bytes: &[u8]) -> usize
     ensures { result ≡ scalars bytes.now }
 {
-    bytes.iter().filter(|b| !continues(**b)).count()
+    bytes.iter().map(|b| usize::from(!continues(*b))).sum()
 }
 
-// Writes the spaces that a column lacks which has `used` scalar values.
+// Writes the spaces that a column lacks which has `used` scalar values. With `saturating_sub` for the test, each later cursor would be computed anew from all
+// widths before it.
 fn pad(out: &mut Output<'_>, used: usize, width: usize)
     requires { (out.old.at ≤ farthest) × (width ≤ 20) }
     ensures { Appended out.old out.new (replicate (width - used) 32) }
 {
-    let spaces = [b' '; 20];
-    out.put_bytes(&spaces[..width.saturating_sub(used)]);
+    if used < width {
+        let spaces = [b' '; 20];
+        out.put_bytes(&spaces[..width - used]);
+    }
 }
 
 // Writes a text, filled up.

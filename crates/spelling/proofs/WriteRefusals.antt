@@ -3,7 +3,7 @@ use Rattle.std.specs.Option.{ok_or}
 use Rattle.std.specs.Prelude.{Option, Some, None, Ok, Err}
 use Rattle.reflection.specs.declared.refusal.Refusal.TheVariants.{NotReadable, NoSpelling}
 use mathlib.Core.Path.{◌≡◌, refl, ap, ◌∙◌}
-use mathlib.Core.Bool.{Bool, true, false, ◌&&◌, cond}
+use mathlib.Core.Bool.{Bool, true, false, ◌&&◌, cond, true≢false}
 use mathlib.Core.List.{List, [], ◌∷◌, ◌++◌}
 use Prim.Native.Nat.{ℕ}
 use Rattle.reflection.specs.Outcome.{Outcome}
@@ -52,8 +52,30 @@ module _ (chunk edits : List ℕ) (t : TypeDesc) where
           → type_name chunk edits t ≡ Ok (bytes_of (type_spelling (text_bytes chunk edits t.name) t))
       type_spelled e = type_by_spelling ∙ ap spelled_or_refused (spelled_bytes (type_spelling (text_bytes chunk edits t.name) t) e)
 
+  -- a type that is not readable has no spelling and no declaration
+  pub type_unreadable : (printable chunk edits t.name && fields_fit t) ≡ false → type_name chunk edits t ≡ Err NotReadable
+  unfolding type_name
+  type_unreadable e = rw e
+
+  pub type_readable_by_spelling : (printable chunk edits t.name && fields_fit t) ≡ true
+      → type_name chunk edits t ≡ spelled_or_refused (type_spelling (text_bytes chunk edits t.name) t)
+  unfolding type_name
+  type_readable_by_spelling e = rw e
+
   -- the declaration of a variable, by the spelling of its type
   module _ (name : Text) where
+    pub declared_type_unreadable : (printable chunk edits t.name && fields_fit t) ≡ false → declaration chunk edits t name ≡ Err NotReadable
+    unfolding declaration
+    declared_type_unreadable e = go (printable chunk edits t.name) (fields_fit t) e
+      where
+        line : Outcome (List ℕ)
+        line = spelled_or_refused (declared (text_bytes chunk edits name) (type_spelling (text_bytes chunk edits t.name) t))
+
+        go : (a b : Bool) → (a && b) ≡ false → cond (a && (b && printable chunk edits name)) line (Err NotReadable) ≡ Err NotReadable
+        go true true h = absurd (true≢false h)
+        go true false h = refl
+        go false b h = refl
+
     pub declared_name_unprintable : printable chunk edits name ≡ false → declaration chunk edits t name ≡ Err NotReadable
     unfolding declaration
     declared_name_unprintable e = go (printable chunk edits t.name) (fields_fit t)

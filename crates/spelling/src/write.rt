@@ -1,15 +1,16 @@
 // The spelling of a type, and the declaration line of a variable, written to a lent output.
-ghost use Rattle.std.specs.Prelude.{◌≡◌, [], ◌∷◌, ◌++◌, ◌+◌, ◌≤◌, ◌^◌, List, ℕ, length};
+ghost use Rattle.std.specs.Prelude.{◌≡◌, true, ◌&&◌, [], ◌∷◌, ◌++◌, ◌+◌, ◌≤◌, ◌^◌, List, ℕ, length};
 ghost use Rattle.codes.specs.Variable.{base_type_row};
 ghost use Rattle.reflection.specs.Outcome.{Outcome};
 ghost use Rattle.text_output.specs.Digits.{decimal};
 ghost use Rattle.text_output.specs.Written.{Answers};
 ghost use Rattle.text_output.specs.Cursor.{farthest};
 ghost use Rattle.text_output.specs.Output.{Appended};
+ghost use Rattle.text_output.specs.Printable.{printable};
 ghost use Rattle.text_output.specs.declared.output.Output.{Output};
 ghost use Rattle.spelling.specs.Names.{base_names, name_in};
 ghost use Rattle.spelling.specs.Spelling.{by_name, bytes_of, dimensions, array_suffix, type_spelling};
-ghost use Rattle.spelling.specs.Spelling.{type_name, declaration};
+ghost use Rattle.spelling.specs.Spelling.{fields_fit, type_name, declaration};
 ghost use Rattle.spelling.specs.Parts.{MayPut, Puts};
 
 use codes::{BaseType, VariableClass};
@@ -105,15 +106,33 @@ fn put_spelling(out: &mut Output<'_>, name: &[u8], t: TypeDesc) -> Option<()>
     Some(())
 }
 
+// Whether a type is readable as far as its spelling needs it: its name, and the fields of 16 bits.
+#[tactic(auto, unfolding(crate::specs::Spelling::fields_fit, reflection::specs::Fits::fits_u16))]
+fn type_readable(texts: Texts<'_>, t: TypeDesc) -> bool
+    ensures { result ≡ (printable texts.entry.chunk.now texts.entry.edits.now t.name && fields_fit t) }
+{
+    text_output::printable(texts, t.name) && t.fits_u16()
+}
+
 // Writes the spelling of a type from the output's start, or says why it is not spelled.
 fn write_type(texts: Texts<'_>, t: TypeDesc, out: &mut Output<'_>) -> Result<(), Refusal>
     requires { out.old.at ≡ 0 }
     ensures text { Puts (type_name texts.entry.chunk.now texts.entry.edits.now t) out.old out.new result }
     ensures near { out.new.at ≤ 2 ^ 33 }
 {
-    if !text_output::printable(texts, t.name) || !t.fits_u16() {
+    if !type_readable(texts, t) {
         return Err(Refusal::NotReadable);
     }
+    write_readable_type(texts, t, out)
+}
+
+// The same of a type that is readable.
+fn write_readable_type(texts: Texts<'_>, t: TypeDesc, out: &mut Output<'_>) -> Result<(), Refusal>
+    requires start { out.old.at ≡ 0 }
+    requires readable { (printable texts.chunk.now texts.edits.now t.name && fields_fit t) ≡ true }
+    ensures text { Puts (type_name texts.entry.chunk.now texts.entry.edits.now t) out.old out.new result }
+    ensures near { out.new.at ≤ 2 ^ 33 }
+{
     let name = texts.name_part(t.name);
     put_spelling(out, name, t).ok_or(Refusal::NoSpelling)
 }
@@ -128,10 +147,11 @@ fn write_declaration(
     requires { out.old.at ≡ 0 }
     ensures { Puts (declaration texts.entry.chunk.now texts.entry.edits.now t name) out.old out.new result }
 {
-    if !text_output::printable(texts, name) {
+    // The type first: where it is refused, no look is taken at the name, however long that is.
+    if !type_readable(texts, t) || !text_output::printable(texts, name) {
         return Err(Refusal::NotReadable);
     }
-    write_type(texts, t, out)?;
+    write_readable_type(texts, t, out)?;
     out.put_byte(b' ');
     out.put_bytes(texts.name_part(name));
     out.put_byte(b';');
