@@ -1,14 +1,13 @@
 -- What `write_payload` answers and leaves in the output, and what part of the two buffers is handed back, by the definition of the payload.
 use Rattle.reflection.specs.Outcome.{Outcome}
-use Rattle.reflection.specs.declared.refusal.Refusal.TheVariants.{NoRoom}
+use Rattle.reflection.specs.declared.refusal.Refusal.TheVariants.{NoRoom, NotReadable}
 use Rattle.text_output.specs.Written.{Written}
-use Rattle.std.specs.Prelude.{◌≡◌, Bool, false, cond, ◌&&◌, List, [], ℕ, leb, length, replicate, Option, None, Some, Ok, Err}
+use Rattle.std.specs.Prelude.{◌≡◌, Bool, false, cond, ◌&&◌, List, [], ℕ, leb, length, replicate, Option, None, Some, Result, Ok, Err}
 use Rattle.words.specs.Parts.{inside, part}
 use Rattle.words.specs.Splice.{splice}
 use Rattle.reflection.specs.Limits.{binding_table, buffer_table, variable_table, type_table}
 use Rattle.reflection.specs.declared.ResourceDef.{ResourceDef as Header}
 use Rattle.reflection.specs.Reflection.{ResourceDef}
-use Rattle.reflection.specs.Texts.{name_place}
 use Rattle.reflection.specs.Contents.{Bytes}
 use Rattle.readable.specs.Readable.{table_contents}
 use Rattle.write_spec.specs.Outcome.{scratch_size}
@@ -59,13 +58,17 @@ written_answer (Ok n) = Ok (Output n)
 written_answer (Err e) = Err e
 
 -- The bytes that are handed back: the chunk, the first n bytes of the output where it has so many, or none.
-unfoldable pub payload_part : Bytes → Bytes → Outcome Payload → Bytes
+unfoldable pub payload_part : {E : Type 0} → Bytes → Bytes → Result Payload E → Bytes
 payload_part chunk out (Ok Chunk) = chunk
 payload_part chunk out (Ok (Output n)) = part out 0 n
 payload_part chunk out (Err e) = []
 
--- Whether they are the payload: else its own refusal, or 16 where the output does not have so many bytes.
+-- Whether they are the payload: else its own refusal, or that one where the output does not have so many bytes.
+unfoldable pub payload_place_or : {E : Type 0} → E → ℕ → Result Payload E → Result (Unit {0}) E
+payload_place_or e room (Ok Chunk) = Ok tt
+payload_place_or e room (Ok (Output n)) = cond (inside room 0 n) (Ok tt) (Err e)
+payload_place_or e room (Err refusal) = Err refusal
+
+-- The same, with 16 for that one.
 unfoldable pub payload_place : ℕ → Outcome Payload → Outcome (Unit {0})
-payload_place room (Ok Chunk) = Ok tt
-payload_place room (Ok (Output n)) = name_place (inside room 0 n)
-payload_place room (Err e) = Err e
+payload_place = payload_place_or NotReadable

@@ -7,7 +7,8 @@ ghost use Rattle.tables.specs.Lent.{SameTables, TablesZeroed};
 ghost use Rattle.read.specs.Parsed.{read_in, TablesParsed};
 ghost use Rattle.payload.specs.Lengths.{TablesAsLong};
 ghost use Rattle.readable.specs.Readable.{table_contents, readable};
-ghost use Rattle.payload.specs.Answer.{room_enough, unedited_held, written_answer, payload_into, PayloadWritten, payload_part, payload_place};
+ghost use Rattle.payload.specs.Answer.{room_enough, unedited_held, written_answer, payload_into, PayloadWritten, payload_part};
+ghost use Rattle.payload.specs.Answer.{payload_place, payload_place_or};
 
 use reflection::{Refusal, ResourceDef, Texts};
 use tables::{Reflection, Tables};
@@ -128,10 +129,10 @@ pub fn write_payload(
 
 // The payload's bytes, as a part of the chunk or of the output and no copy; the empty part after a refusal, or where the output does not have so many bytes.
 #[tactic(auto, unfolding(crate::specs::Answer::payload_part))]
-pub fn payload_part<'a>(
+pub fn payload_part<'a, E: Copy>(
     chunk: &'a [u8],
     out: &'a [u8],
-    payload: Result<Payload, Refusal>,
+    payload: Result<Payload, E>,
 ) -> &'a [u8]
     ensures { result.now ≡ payload_part chunk.now out.now payload }
 {
@@ -144,18 +145,31 @@ pub fn payload_part<'a>(
 
 // What stands beside `payload_part`: whether the part that it hands back is the payload; else the payload's own refusal, or 16.
 // Two calls, as docs/FORMAT.md has them: `payload_part` cannot fail.
-#[tactic(auto, unfolding(crate::specs::Answer::payload_place, words::specs::Parts::inside))]
+#[tactic(auto, unfolding(crate::specs::Answer::payload_place))]
 pub fn payload_refusal(out: &[u8], payload: Result<Payload, Refusal>) -> Result<(), Refusal>
     ensures { result ≡ payload_place (length out.now) payload }
 {
-    match payload? {
-        Payload::Chunk => Ok(()),
-        Payload::Output(n) => {
+    payload_refusal_or(out, payload, Refusal::NotReadable)
+}
+
+// The same of a payload whose refusal is of any type, with what stands for 16.
+#[tactic(auto, unfolding(crate::specs::Answer::payload_place_or, words::specs::Parts::inside))]
+pub fn payload_refusal_or<E: Copy>(
+    out: &[u8],
+    payload: Result<Payload, E>,
+    not_readable: E,
+) -> Result<(), E>
+    ensures { result ≡ payload_place_or not_readable (length out.now) payload }
+{
+    match payload {
+        Ok(Payload::Chunk) => Ok(()),
+        Ok(Payload::Output(n)) => {
             if n <= out.len() {
                 Ok(())
             } else {
-                Err(Refusal::NotReadable)
+                Err(not_readable)
             }
         }
+        Err(refusal) => Err(refusal),
     }
 }

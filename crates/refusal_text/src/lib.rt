@@ -44,11 +44,18 @@ pub fn sentence(refusal: Refusal) -> &'static str
     }
 }
 
-// The sentence of a refusal's number; the empty text for a number that is no refusal's.
+// What the refusal says that has a number; the empty text for a number that is no refusal's.
+pub fn sentence_of(number: u32) -> &'static str
+    ensures { result.now ≡ sentence number }
+{
+    Refusal::try_from(number).map_or("", sentence)
+}
+
+// The same to a lent output.
 pub fn refusal_text(number: u32, out: &mut [u8]) -> Result<usize, Refusal>
     ensures { Answers (Ok (sentence number)) out.old out.new result }
 {
-    let text = Refusal::try_from(number).map_or("", sentence);
+    let text = sentence_of(number);
     let mut written = Output { bytes: out, at: 0 };
     written.put_bytes(text.as_bytes());
     written.finish()

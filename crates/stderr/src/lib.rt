@@ -3,7 +3,7 @@
 
 ghost use Rattle.std.specs.Prelude.{◌≡◌, OnOk};
 ghost use Rattle.std.specs.Io.KnownBytes.{Appends};
-ghost use Rattle.stderr.specs.Refused.{first_of, container, message};
+ghost use Rattle.stderr.specs.Refused.{first_of, container, message_of_number, message};
 
 use reflection::Refusal;
 use std::io::{BufWriter, Write};
@@ -31,7 +31,14 @@ impl fmt::Debug for Failure {
 pub fn keep_first(first: &mut Option<Refusal>, refusal: Refusal)
     ensures { first.new ≡ first_of first.old refusal }
 {
-    first.get_or_insert(refusal);
+    keep_first_of(first, refusal);
+}
+
+// The same of whatever stands for a refusal, as any number.
+pub fn keep_first_of<T: Copy>(first: &mut Option<T>, item: T)
+    ensures { first.new ≡ first_of first.old item }
+{
+    first.get_or_insert(item);
 }
 
 // Adds what is said of a chunk that is a DXBC container.
@@ -48,17 +55,24 @@ fn put_container<W: Write>(to: &mut W, chunk: &[u8]) -> io::Result<()>
     }
 }
 
-// Adds why a chunk, or the first of some texts, was refused; nothing where none was. A chunk that is a DXBC container is named as such.
+// Adds why a chunk, or the first of some texts, was refused, by the refusal's number; nothing where it is 0. A chunk that is a DXBC container is named as
+// such.
+pub fn put_refused_number<W: Write>(to: &mut W, chunk: &[u8], number: u32) -> io::Result<()>
+    ensures { OnOk result (Appends (W.contents to.old) (W.contents to.new) (message_of_number chunk.now number)) }
+{
+    if number == 0 {
+        return Ok(());
+    }
+    let sentence = refusal_text::sentence_of(number);
+    writeln!(to, "refused {number}: {sentence}")?;
+    put_container(to, chunk)
+}
+
+// The same by the refusal; nothing where nothing was refused.
 pub fn put_refused<W: Write>(to: &mut W, chunk: &[u8], refused: Option<Refusal>) -> io::Result<()>
     ensures { OnOk result (Appends (W.contents to.old) (W.contents to.new) (message chunk.now refused)) }
 {
-    let Some(refusal) = refused else {
-        return Ok(());
-    };
-    let number = u32::from(refusal);
-    let sentence = refusal_text::sentence(refusal);
-    writeln!(to, "refused {number}: {sentence}")?;
-    put_container(to, chunk)
+    put_refused_number(to, chunk, refused.map_or(0, u32::from))
 }
 
 // `put_refused` to standard error, in one write; nothing is done where nothing was refused.

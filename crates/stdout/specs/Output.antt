@@ -4,6 +4,11 @@ use Rattle.std.specs.Fmt.{decimal}
 use Rattle.text_output.specs.Ascii.{ascii}
 use Rattle.text_output.specs.Digits.{hex_digit}
 
+-- Numbers in decimal, with a tab before each.
+abbrev pub fields : List ℕ → List ℕ
+fields [] = []
+fields (n ∷ ns) = 9 ∷ decimal n ++ fields ns
+
 -- The two digits of each byte.
 abbrev pub hex_digits : List ℕ → List ℕ
 hex_digits [] = []
