@@ -9,8 +9,10 @@ lent_by s = lent_in s.texts s.r s.scratch.now s.out.now
 abbrev pub left_with : Side → Left
 left_with s = left_in s.scratch.now s.out.now s.found.now
 
--- Scratch, output and tables are still those that were lent.
+-- The texts and the reflection are still those that were given, and scratch, output and tables those that were lent.
 pub record SameSide (before after : Side) : Type 0 where
+  pub texts : after.texts ≡ before.texts
+  pub r : after.r ≡ before.r
   pub scratch : after.scratch.ghost_name ≡ before.scratch.ghost_name
   pub out : after.out.ghost_name ≡ before.out.ghost_name
   pub found : after.found.ghost_name ≡ before.found.ghost_name

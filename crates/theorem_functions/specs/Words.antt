@@ -1,5 +1,4 @@
--- Vocabulary of internal contracts: no contract of an exported function and no demand cites it.
--- What is lent as words is words.
+-- What is lent as words is words: a clause of `write_and_read`. No demand cites it.
 use Rattle.std.specs.Prelude.{List, [], ◌∷◌, ℕ, ◌<◌, get_or}
 use Rattle.reflection.specs.declared.ResourceDef.{ResourceDef as Header}
 use Rattle.theorem_round_trip.specs.RoundTrip.{EachIsWord}

@@ -63,10 +63,16 @@ pub fn write_and_read(
     ensures words { LentWords (lent_in texts.entry r.entry scratch.old out.old) }
 {
     lent_words(r.def, r.bindings, r.buffers, r.variables, r.types);
-    *found = WholeTables::new();
-    let n = write::write_rdef_canonical(texts, r, scratch, out)?;
-    let parsed = found.read(words::part(out, 0, n));
-    Ok(WrittenAndRead { length: n, parsed })
+    match write::write_rdef_canonical(texts, r, scratch, out) {
+        Err(refusal) => {
+            found.clear();
+            Err(refusal)
+        }
+        Ok(n) => {
+            let parsed = found.read(words::part(out, 0, n));
+            Ok(WrittenAndRead { length: n, parsed })
+        }
+    }
 }
 
 // Demand 3: two reflections, each written and read again (specs/Noninterference.antt).

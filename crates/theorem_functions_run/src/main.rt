@@ -33,15 +33,21 @@ struct Lent<'a> {
 }
 
 impl<'a> Lent<'a> {
-    // Nothing is edited. The scratch holds `word` before, and the output `byte`.
-    fn new(chunk: &'a [u8], word: u32, byte: u8) -> Lent<'a> {
+    // Nothing is edited. All else is zeros, which are laid straight where the caller has them: an array of another word would be copied there.
+    fn new(chunk: &'a [u8]) -> Lent<'a> {
         Lent {
             texts: Texts { chunk, edits: &[] },
             tables: WholeTables::new(),
-            scratch: [word; SCRATCH_WORDS],
-            out: [byte; ROOM],
+            scratch: [0; SCRATCH_WORDS],
+            out: [0; ROOM],
             found: WholeTables::new(),
         }
+    }
+
+    // What scratch and output hold before they are lent.
+    fn fill(&mut self, word: u32, byte: u8) {
+        self.scratch.fill(word);
+        self.out.fill(byte);
     }
 }
 
@@ -73,8 +79,8 @@ fn pair<W: Write>(lines: &mut W, a: &mut Lent<'_>, b: &mut Lent<'_>) -> io::Resu
     seen::place_line(lines, "place b", &b.out, &b.found.variables)?;
     let outside = seen::differing(&a.out, &b.out, &a.found.variables, count, n, false);
     let inside = seen::differing(&a.out, &b.out, &a.found.variables, count, n, true);
-    writeln!(lines, "differ outside\t{outside}")?;
-    writeln!(lines, "differ inside\t{inside}")?;
+    seen::number_line(lines, "differ outside", outside)?;
+    seen::number_line(lines, "differ inside", inside)?;
     seen::bool_line(lines, "past a kept", seen::kept(&a.out, n, 0x11))?;
     seen::bool_line(lines, "past b kept", seen::kept(&b.out, n, 0x22))?;
     seen::bool_line(lines, "scratch a zero", seen::zero(&a.scratch))?;
@@ -98,14 +104,16 @@ fn twice<W: Write>(lines: &mut W, a: &mut Lent<'_>, second: &mut [u8; ROOM]) -> 
     seen::answer_line(lines, "first", both.first)?;
     seen::written_line(lines, "again", both.again)?;
     let different = seen::differing(&a.out, second, &a.found.variables, 0, n, false);
-    writeln!(lines, "differ again\t{different}")
+    seen::number_line(lines, "differ again", different)
 }
 
 fn main(rt: HostRuntime) -> io::Result<()> {
     let mut chunks = [0u8; INPUT];
     input::standard_full(&rt, &mut chunks)?;
-    let mut a = Lent::new(&chunks[..LENGTH_A], 7, 0x11);
-    let mut b = Lent::new(&chunks[LENGTH_A..], 8, 0x22);
+    let mut a = Lent::new(&chunks[..LENGTH_A]);
+    let mut b = Lent::new(&chunks[LENGTH_A..]);
+    a.fill(7, 0x11);
+    b.fill(8, 0x22);
     let mut lines = BufWriter::new(rt.alloc(), rt.stdout())?;
     pair(&mut lines, &mut a, &mut b)?;
     twice(&mut lines, &mut a, &mut b.out)?;

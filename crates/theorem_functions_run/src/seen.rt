@@ -4,6 +4,15 @@ use std::io;
 use std::io::Write;
 use theorem_functions::WrittenAndRead;
 
+// A length or a count as a word; outputs are short.
+fn word(n: usize) -> u32 {
+    n.min(reflection::CHUNK_LIMIT) as u32
+}
+
+pub fn number_line<W: Write>(out: &mut W, name: &str, n: usize) -> io::Result<()> {
+    stdout::put_line(out, name.as_bytes(), &[word(n)])
+}
+
 pub fn bool_line<W: Write>(out: &mut W, name: &str, yes: bool) -> io::Result<()> {
     let said = if yes { "yes" } else { "no" };
     writeln!(out, "{name}\t{said}")
@@ -29,9 +38,8 @@ pub fn answer_line<W: Write>(
 ) -> io::Result<()> {
     match answer {
         Ok(written) => {
-            let length = written.length;
-            let count = variables(answer);
-            writeln!(out, "{name}\twrote\t{length}\t{count}")
+            stdout::put_bytes(out, name.as_bytes())?;
+            stdout::put_line(out, b"\twrote", &[word(written.length), variables(answer)])
         }
         Err(refusal) => refused_line(out, name, refusal),
     }
@@ -43,14 +51,17 @@ pub fn written_line<W: Write>(
     answer: Result<usize, Refusal>,
 ) -> io::Result<()> {
     match answer {
-        Ok(length) => writeln!(out, "{name}\twrote\t{length}"),
+        Ok(length) => {
+            stdout::put_bytes(out, name.as_bytes())?;
+            stdout::put_line(out, b"\twrote", &[word(length)])
+        }
         Err(refusal) => refused_line(out, name, refusal),
     }
 }
 
 fn refused_line<W: Write>(out: &mut W, name: &str, refusal: Refusal) -> io::Result<()> {
-    let number = u32::from(refusal);
-    writeln!(out, "{name}\trefused\t{number}")
+    stdout::put_bytes(out, name.as_bytes())?;
+    stdout::put_line(out, b"\trefused", &[u32::from(refusal)])
 }
 
 // Where the first variable's default was found, its length, and the bytes there in hex.
@@ -61,13 +72,13 @@ pub fn place_line<W: Write>(
     variables: &[u32],
 ) -> io::Result<()> {
     let default = tables::variable_at(variables, 0).default_value;
-    let place = default.place;
-    let length = default.length;
     let texts = Texts {
         chunk: written,
         edits: written,
     };
-    write!(out, "{name}\t{place}\t{length}\t")?;
+    stdout::put_bytes(out, name.as_bytes())?;
+    stdout::put_fields(out, &[default.place, default.length])?;
+    stdout::put_byte(out, b'\t')?;
     stdout::put_hex(out, texts.name_part(default))?;
     stdout::put_byte(out, b'\n')
 }

@@ -2,9 +2,10 @@
 #![tactic(auto)]
 
 ghost use Rattle.std.specs.Prelude.{◌≡◌, replicate};
+ghost use Rattle.std.specs.Borrow.{sem};
 ghost use Rattle.reflection.specs.Limits.{binding_table, buffer_table, variable_table, type_table};
 ghost use Rattle.read.specs.Parsed.{read_into, ParsedInto};
-ghost use Rattle.whole_tables.specs.Read.{ReadAs};
+ghost use Rattle.whole_tables.specs.Read.{ReadAs, LeavesRead, WholeRoom};
 
 use reflection::{BINDING_TABLE, BUFFER_TABLE, Refusal, ResourceDef, TYPE_TABLE, VARIABLE_TABLE};
 use tables::{Reflection, Tables};
@@ -33,12 +34,26 @@ impl WholeTables {
         }
     }
 
-    // `read::parse_rdef` into them.
+    // Zeros in all four, where they stand: no new tables are made.
+    pub fn clear(&mut self)
+        ensures bindings { self.new.bindings ≡ replicate binding_table 0 }
+        ensures buffers { self.new.buffers ≡ replicate buffer_table 0 }
+        ensures variables { self.new.variables ≡ replicate variable_table 0 }
+        ensures types { self.new.types ≡ replicate type_table 0 }
+    {
+        self.bindings.fill(0);
+        self.buffers.fill(0);
+        self.variables.fill(0);
+        self.types.fill(0);
+    }
+
+    // `read::parse_rdef` into them, whose lengths are the whole room.
     pub fn read(&mut self, chunk: &[u8]) -> Result<ResourceDef, Refusal>
-        ensures { ParsedInto
+        ensures parsed { ParsedInto
             (read_into chunk.now self.old.bindings self.old.buffers self.old.variables self.old.types)
             self.old.bindings self.old.buffers self.old.variables self.old.types
             self.new.bindings self.new.buffers self.new.variables self.new.types result }
+        ensures room { WholeRoom self.old }
     {
         let mut tables = Tables {
             bindings: &mut self.bindings,
@@ -49,10 +64,11 @@ impl WholeTables {
         read::parse_rdef(chunk, &mut tables)
     }
 
-    // The same, answered with the tables that the header is of.
+    // The same, answered with the tables that the header is of. Once the answer is let go they hold what `read` leaves: of a refusal zeros.
     #[tactic(auto, unfolding(crate::specs::Read::ReadAs))]
     pub fn read_reflection(&mut self, chunk: &[u8]) -> Result<Reflection<'_>, Refusal>
-        ensures { ReadAs chunk.now self.old result }
+        ensures* left { sem 𝓛 (LeavesRead chunk.now self.entry) }
+        ensures answer { ReadAs chunk.now self.old result }
     {
         let def = self.read(chunk)?;
         Ok(self.reflection(def))
