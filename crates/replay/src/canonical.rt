@@ -62,8 +62,7 @@ impl Cases for Canonical {
 
     // Prints how many forms were written and how many refused with each number.
     fn answer_lines<W: Write>(&self, out: &mut W, answers: &[u32; ANSWERS]) -> io::Result<()> {
-        let written = answers[0];
-        writeln!(out, "written\t{written}")?;
+        stdout::put_line(out, b"written", &[answers[0]])?;
         refused_lines(out, answers, Refusal::NoRoom, Refusal::OutputTooSmall)
     }
 }

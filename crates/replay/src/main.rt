@@ -19,7 +19,9 @@ mod reports;
 mod spelled;
 mod summary;
 
-// Replays the cases of a file, one after the other. A file that is cut, or that has more than its cases, is a bad one.
+// Replays the cases of a file, one after the other. A file that is cut, or that has more than its cases, is a bad one. Not inlined, so that the tables of
+// its cases are given back before the reports.
+#[inline(never)]
 fn replay_all<C: Cases, W: Write>(out: &mut W, cases: &mut C, file: &[u8]) -> io::Result<()> {
     let mut stored = Stored::new(file);
     let mut answers = [0u32; ANSWERS];
@@ -32,14 +34,14 @@ fn replay_all<C: Cases, W: Write>(out: &mut W, cases: &mut C, file: &[u8]) -> io
         };
         summary::count(&mut answers, case.number);
         if !case.same {
-            writeln!(out, "case\t{i}")?;
+            stdout::put_line(out, b"case", &[i])?;
             different = different.saturating_add(1);
         }
         replayed = i + 1;
     }
-    writeln!(out, "cases\t{replayed}")?;
+    stdout::put_line(out, b"cases", &[replayed])?;
     cases.answer_lines(out, &answers)?;
-    writeln!(out, "different\t{different}")?;
+    stdout::put_line(out, b"different", &[different])?;
     if count != Some(replayed) || !stored.is_empty() {
         stdout::put_bytes(out, b"bad file\n")?;
     }

@@ -41,8 +41,7 @@ impl Cases for Reading {
 
     // Prints how many chunks were read and how many refused with each number.
     fn answer_lines<W: Write>(&self, out: &mut W, answers: &[u32; ANSWERS]) -> io::Result<()> {
-        let read = answers[0];
-        writeln!(out, "read\t{read}")?;
+        stdout::put_line(out, b"read", &[answers[0]])?;
         refused_lines(out, answers, Refusal::ChunkTooShort, Refusal::NoRoom)
     }
 }

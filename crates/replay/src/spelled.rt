@@ -60,16 +60,11 @@ impl Cases for Spelling {
 
     // Prints how many queries of each kind there were, how many were answered, and how many refused with each number.
     fn answer_lines<W: Write>(&self, out: &mut W, answers: &[u32; ANSWERS]) -> io::Result<()> {
-        let type_names = self.type_names;
-        let declarations = self.declarations;
-        let parsed_types = self.parsed_types;
-        let listed_bindings = self.listed_bindings;
-        let answered = answers[0];
-        writeln!(out, "type name\t{type_names}")?;
-        writeln!(out, "declaration\t{declarations}")?;
-        writeln!(out, "parse type\t{parsed_types}")?;
-        writeln!(out, "list binding\t{listed_bindings}")?;
-        writeln!(out, "answered\t{answered}")?;
+        stdout::put_line(out, b"type name", &[self.type_names])?;
+        stdout::put_line(out, b"declaration", &[self.declarations])?;
+        stdout::put_line(out, b"parse type", &[self.parsed_types])?;
+        stdout::put_line(out, b"list binding", &[self.listed_bindings])?;
+        stdout::put_line(out, b"answered", &[answers[0]])?;
         refused_lines(out, answers, Refusal::NotReadable, Refusal::NoSpelling)
     }
 }

@@ -15,7 +15,7 @@ pub fn refused_lines<W: Write>(
 ) -> io::Result<()> {
     for number in u32::from(first)..=u32::from(last) {
         if let Some(cases) = answers.get(number as usize) {
-            writeln!(out, "refused\t{number}\t{cases}")?;
+            stdout::put_line(out, b"refused", &[number, *cases])?;
         }
     }
     Ok(())

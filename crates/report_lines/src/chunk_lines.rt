@@ -21,7 +21,7 @@ impl<W: Write> Reporter<'_, W> {
         if 0 < depth {
             self.mem_line(node)?;
         }
-        self.type_line(depth, node)?;
+        self.type_line(depth as u32, node)?;
         if depth + 1 < TYPE_LEVELS {
             for _ in 0..node.member_count {
                 self.type_lines(depth + 1, nodes)?;

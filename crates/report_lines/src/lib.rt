@@ -9,6 +9,7 @@ use tables::Reflection;
 use whole_tables::WholeTables;
 
 mod chunk_lines;
+mod fields;
 mod lines;
 
 // A reflection that is reported, the text that holds its names, and where its lines go.

@@ -2,6 +2,10 @@
 // "Spelling and listing"). A line feed ends a line, which the last line may lack.
 #![tactic(auto)]
 
+ghost use Rattle.std.specs.Prelude.{OnOk};
+ghost use Rattle.std.specs.Io.KnownBytes.{Appends};
+ghost use Rattle.spell.specs.Numbers.{numbers_line};
+
 use answer_lines::Answers;
 use reflection::Refusal;
 use spelling_parse::TypeSpelling;
@@ -17,12 +21,12 @@ const LONGEST: usize = 1048576;
 const BLOCK: usize = 65536;
 
 // Prints what a text spells.
-fn put_numbers<W: Write>(out: &mut W, t: TypeSpelling) -> io::Result<()> {
-    writeln!(
-        out,
-        "{}\t{}\t{}\t{}\t{}",
-        t.class, t.base, t.rows, t.columns, t.elements
-    )
+fn put_numbers<W: Write>(out: &mut W, t: TypeSpelling) -> io::Result<()>
+    ensures { OnOk result (Appends (W.contents out.old) (W.contents out.new) (numbers_line t)) }
+{
+    stdout::put_decimal(out, t.class)?;
+    stdout::put_fields(out, &[t.base, t.rows, t.columns, t.elements])?;
+    stdout::put_byte(out, b'\n')
 }
 
 // The text that is being read, and how many of its bytes are kept: `None` where it had no room.
@@ -106,8 +110,9 @@ impl<W: Write> Speller<W> {
     }
 }
 
-// The first text that was refused is said even where a read or a write failed.
-fn main(rt: HostRuntime) -> Result<(), Failure> {
+// Answers every line to standard output, and keeps the first refusal. What still waits where a read or a write failed is tried once more as the writer
+// ends: so it ends here, before standard error is written to.
+fn spell(rt: &HostRuntime, refused: &mut Option<Refusal>) -> Result<(), Failure> {
     let mut speller = Speller {
         line: Line {
             bytes: [0; LONGEST],
@@ -118,7 +123,15 @@ fn main(rt: HostRuntime) -> Result<(), Failure> {
             refused: None,
         },
     };
-    let answered = speller.answer_all(&rt);
-    stderr::refused(&rt, b"", speller.answers.refused)?;
+    let answered = speller.answer_all(rt);
+    *refused = speller.answers.refused;
+    answered
+}
+
+// The first text that was refused is said even where a read or a write failed.
+fn main(rt: HostRuntime) -> Result<(), Failure> {
+    let mut refused = None;
+    let answered = spell(&rt, &mut refused);
+    stderr::refused(&rt, b"", refused)?;
     answered
 }
