@@ -10,7 +10,6 @@ use Rattle.reflection.specs.Outcome.{Outcome}
 use Rattle.reflection.specs.declared.Text.{Text}
 use Rattle.reflection.specs.declared.TypeDesc.{TypeDesc}
 use Rattle.reflection.specs.Texts.{text_bytes}
-use Rattle.reflection.specs.Fits.{fits_u16}
 use Rattle.text_output.specs.Printable.{printable}
 use Rattle.text_output.specs.declared.output.Output.{Output}
 use Rattle.spelling.specs.Parts.{MayPut, Puts}
@@ -28,39 +27,22 @@ abbrev pub declared_line : List ℕ → Outcome (List ℕ) → Outcome (List ℕ
 declared_line name (Ok type) = Ok (type ++ (32 ∷ (name ++ (59 ∷ []))))
 declared_line name (Err why) = Err why
 
--- the fields of 16 bits, as `reflection` tests them
-pub same_fit : (t : TypeDesc) → fields_fit t ≡ fits_u16 t
-unfolding fields_fit fits_u16
-same_fit t = refl
-
 module _ (chunk edits : List ℕ) (t : TypeDesc) where
-  pub type_name_unprintable : printable chunk edits t.name ≡ false → type_name chunk edits t ≡ Err NotReadable
-  unfolding type_name
-  type_name_unprintable e = rw e
-
-  module _ (own : printable chunk edits t.name ≡ true) where
-    pub type_fields_unfit : fields_fit t ≡ false → type_name chunk edits t ≡ Err NotReadable
-    unfolding type_name
-    type_fields_unfit unfit = rw (own, unfit)
-
-    module _ (fit : fields_fit t ≡ true) where
-      pub type_by_spelling : type_name chunk edits t ≡ spelled_or_refused (type_spelling (text_bytes chunk edits t.name) t)
-      unfolding type_name
-      type_by_spelling = rw (own, fit)
-
-      pub type_spelled : is_spelled (type_spelling (text_bytes chunk edits t.name) t) ≡ true
-          → type_name chunk edits t ≡ Ok (bytes_of (type_spelling (text_bytes chunk edits t.name) t))
-      type_spelled e = type_by_spelling ∙ ap spelled_or_refused (spelled_bytes (type_spelling (text_bytes chunk edits t.name) t) e)
-
   -- a type that is not readable has no spelling and no declaration
   pub type_unreadable : (printable chunk edits t.name && fields_fit t) ≡ false → type_name chunk edits t ≡ Err NotReadable
   unfolding type_name
   type_unreadable e = rw e
 
-  pub type_readable_by_spelling : (printable chunk edits t.name && fields_fit t) ≡ true
+  pub type_by_spelling : (printable chunk edits t.name && fields_fit t) ≡ true
       → type_name chunk edits t ≡ spelled_or_refused (type_spelling (text_bytes chunk edits t.name) t)
   unfolding type_name
-  type_readable_by_spelling e = rw e
+  type_by_spelling e = rw e
+
+  pub type_spelled : printable chunk edits t.name ≡ true → fields_fit t ≡ true
+      → is_spelled (type_spelling (text_bytes chunk edits t.name) t) ≡ true
+      → type_name chunk edits t ≡ Ok (bytes_of (type_spelling (text_bytes chunk edits t.name) t))
+  type_spelled own fit e =
+      type_by_spelling (rw (own, fit) refl) ∙ ap spelled_or_refused (spelled_bytes (type_spelling (text_bytes chunk edits t.name) t) e)
 
   -- the declaration of a variable, by the spelling of its type
   module _ (name : Text) where

@@ -1,4 +1,3 @@
--- Vocabulary of internal contracts: no contract of an exported function and no demand cites it.
 -- What a chunk reads as, in tables that are lent back with the header.
 use Rattle.std.specs.Prelude.{◌≡◌, List, ℕ, length, Ok, Err}
 use Rattle.std.specs.Borrow.{Fml, MutBor}

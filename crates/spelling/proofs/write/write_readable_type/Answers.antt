@@ -4,13 +4,13 @@ use native.Mathlib.Omega.{arith}
 use lib.ListN.{length}
 use Rattle.text_output.proofs.NameLength.{name_at_most}
 use Rattle.spelling.specs.Spelling.{type_spelling}
-use Rattle.spelling.proofs.WriteRefusals.{type_readable_by_spelling, put_or_refused}
+use Rattle.spelling.proofs.WriteRefusals.{type_by_spelling, put_or_refused}
 use Rattle.spelling.proofs.write.write_readable_type.Goals as goal
 
 pub returns-clause-text : goal.returns-clause-text
 returns-clause-text c =
     let a = c.args in
-    let is = type_readable_by_spelling a.texts.chunk.now a.texts.edits.now a.t c.requires.readable in
+    let is = type_by_spelling a.texts.chunk.now a.texts.edits.now a.t c.requires.readable in
     rw c.ok_or.ensures.value
     (put_or_refused (type_spelling c.name_part-name.result.now a.t) a.out.now c.put_spelling.new.out (rw c.name_part-name.ensures is)
     c.put_spelling.result c.put_spelling.ensures.text)
