@@ -10,6 +10,7 @@ use Rattle.reflection.specs.Outcome.{Outcome}
 use Rattle.reflection.specs.declared.Text.{Text}
 use Rattle.reflection.specs.declared.TypeDesc.{TypeDesc}
 use Rattle.reflection.specs.Texts.{text_bytes}
+use Rattle.reflection.specs.Fits.{fits_u16}
 use Rattle.text_output.specs.Printable.{printable}
 use Rattle.text_output.specs.declared.output.Output.{Output}
 use Rattle.spelling.specs.Parts.{MayPut, Puts}
@@ -26,6 +27,11 @@ module _ {outcome : Outcome (List ℕ)} (text : Option (List ℕ)) (before after
 abbrev pub declared_line : List ℕ → Outcome (List ℕ) → Outcome (List ℕ)
 declared_line name (Ok type) = Ok (type ++ (32 ∷ (name ++ (59 ∷ []))))
 declared_line name (Err why) = Err why
+
+-- the fields of 16 bits, as `reflection` tests them
+pub same_fit : (t : TypeDesc) → fields_fit t ≡ fits_u16 t
+unfolding fields_fit fits_u16
+same_fit t = refl
 
 module _ (chunk edits : List ℕ) (t : TypeDesc) where
   -- a type that is not readable has no spelling and no declaration

@@ -107,7 +107,7 @@ fn put_spelling(out: &mut Output<'_>, name: &[u8], t: TypeDesc) -> Option<()>
 }
 
 // Whether a type is readable as far as its spelling needs it: its name, and the fields of 16 bits.
-#[tactic(auto, unfolding(crate::specs::Spelling::fields_fit, reflection::specs::Fits::fits_u16))]
+#[tactic(auto, using(crate::proofs::WriteRefusals::same_fit))]
 fn type_readable(texts: Texts<'_>, t: TypeDesc) -> bool
     ensures { result ≡ (printable texts.entry.chunk.now texts.entry.edits.now t.name && fields_fit t) }
 {
